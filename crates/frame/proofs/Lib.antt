@@ -1,0 +1,3 @@
+-- Laws that the proofs of `frame` share.
+pub mod Same
+pub mod Literal

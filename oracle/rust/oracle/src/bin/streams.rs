@@ -1,0 +1,70 @@
+//! Makes streams of cases on standard output.
+
+use oracle::exit;
+use oracle::make::{bench, every, random};
+use std::io::{self, BufWriter, Write};
+use std::process::ExitCode;
+
+const USAGE: &str = "\
+usage: streams all LENGTH ALPHABET [PREFIX]   every text up to LENGTH characters, in each mode
+       streams random SEED COUNT [KIND..]     seeded cases; kinds: text frame lines rooms damaged
+                                              refused limits
+       streams bench                          B1 to B15 of document 01
+In ALPHABET and PREFIX \\n is a newline, \\t a tabulator and \\\\ a backslash.";
+
+fn main() -> ExitCode {
+    let arguments: Vec<String> = std::env::args().skip(1).collect();
+    let words: Vec<&str> = arguments.iter().map(String::as_str).collect();
+    let mut output = BufWriter::with_capacity(1 << 16, io::stdout().lock());
+    match make(&words, &mut output) {
+        None => {
+            eprintln!("{USAGE}");
+            ExitCode::from(2)
+        }
+        Some(written) => exit::after("streams", written.and_then(|()| output.flush())),
+    }
+}
+
+/// Makes the stream that is asked for; nothing if the words make no sense.
+fn make(words: &[&str], output: &mut impl Write) -> Option<io::Result<()>> {
+    match words {
+        ["all", length, alphabet] => every_text(length, alphabet, "", output),
+        ["all", length, alphabet, prefix] => every_text(length, alphabet, prefix, output),
+        ["random", seed, count, kinds @ ..] => {
+            let kinds = kinds.iter().map(|name| random::kind_named(name));
+            let kinds = kinds.collect::<Option<Vec<_>>>()?;
+            Some(random::write(seed.parse().ok()?, count.parse().ok()?, &kinds, output))
+        }
+        ["bench"] => Some(bench::cases().iter().try_for_each(|draft| draft.case().write(output))),
+        _ => None,
+    }
+}
+
+fn every_text(
+    length: &str,
+    alphabet: &str,
+    prefix: &str,
+    output: &mut impl Write,
+) -> Option<io::Result<()>> {
+    let alphabet: Vec<char> = unescape(alphabet).chars().collect();
+    if alphabet.is_empty() {
+        return None;
+    }
+    Some(every::write(length.parse().ok()?, &alphabet, &unescape(prefix), output))
+}
+
+/// The characters that are awkward to write in a shell.
+fn unescape(word: &str) -> String {
+    let mut result = String::new();
+    let mut characters = word.chars();
+    while let Some(c) = characters.next() {
+        let escaped = if c == '\\' { characters.next() } else { None };
+        result.push(match escaped {
+            Some('n') => '\n',
+            Some('t') => '\t',
+            Some(other) => other,
+            None => c,
+        });
+    }
+    result
+}

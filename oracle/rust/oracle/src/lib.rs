@@ -1,0 +1,11 @@
+//! What the programs share: cases and their stream, the Rust's answer to a case, its listing, and
+//! the makers of cases.
+
+pub mod answer;
+pub mod case;
+pub mod error_record;
+pub mod exit;
+pub mod listing;
+pub mod make;
+pub mod ranges;
+pub mod reading;
