@@ -1,0 +1,2 @@
+-- Laws that the proofs of `scan` share.
+pub mod Numbers

@@ -1,0 +1,7 @@
+-- What the contracts of `scan` cite, laws for its callers, and worked examples.
+pub mod Characters
+pub mod Ends
+pub mod Words
+pub mod Counts
+pub mod ScanLaws
+pub mod Examples

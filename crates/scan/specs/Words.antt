@@ -1,0 +1,73 @@
+-- A word and a number at a place.
+use Prim.Native.Nat.{ℕ, _+_, _-_, _*_, _%_}
+use mathlib.Core.Bool.{Bool}
+use mathlib.Core.List.{List, [], _∷_}
+use lib.Dec.{eqb, ltb}
+use Rattle.unicode.specs.Choice.{pick, both, within}
+use Rattle.unicode.specs.Utf8.{peekAt}
+use Rattle.unicode.specs.Chars.{Ch, charsFrom, takeWhile, runEnd}
+use Rattle.unicode.specs.Questions.{isStart, isContinue}
+use Rattle.unicode.specs.declared.Seen.{Seen}
+use Rattle.unicode.specs.declared.Seen.the-variants.{Char, End}
+use Rattle.frame.specs.Places.{place, rangeOf}
+use Rattle.frame.specs.declared.TextPlace.{TextPlace}
+use Rattle.scan.specs.Characters.{isAt}
+use Rattle.scan.specs.declared.Fault.{Fault}
+use Rattle.scan.specs.declared.WordRead.{WordRead}
+use Rattle.scan.specs.declared.Noted.{Noted}
+use Rattle.scan.specs.declared.Number.{Number}
+use Rattle.scan.specs.declared.NumberRead.{NumberRead}
+
+-- the end of the word whose first character is seen at a place
+abbrev pub wordSeen : List ℕ → TextPlace → Seen → TextPlace
+wordSeen t at End = at
+wordSeen t at (Char c w) = pick (isStart c) (place (runEnd isContinue t (at .0 + w))) at
+
+-- "A word is one start and then continuations, taken as far as they go."
+unfoldable pub wordEnd : List ℕ → TextPlace → TextPlace
+wordEnd t at = wordSeen t at (peekAt t (at .0))
+
+-- the word from a place to its end is `_`
+unfoldable pub isUnderscore : List ℕ → TextPlace → TextPlace → Bool
+isUnderscore t at end = both (isAt t at 0x5F) (eqb (end .0) (at .0 + 1))
+
+-- the word at a place, with kind 6 where it is `_`; "a word that is empty has the empty byte range where reading stood"
+unfoldable pub wordRead : List ℕ → TextPlace → WordRead
+wordRead t at =
+    let end = wordEnd t at in
+    record {
+      word = rangeOf at end;
+      fault = pick (isUnderscore t at end) (Fault.Underscore (rangeOf at end)) Fault.Clean;
+    }
+
+-- an ASCII digit
+unfoldable pub isDigit : ℕ → Bool
+isDigit c = within c 0x30 0x39
+
+-- the number that digits spell, after the number n
+unfoldable pub decimal : ℕ → List Ch → ℕ
+decimal n [] = n
+decimal n (c ∷ cs) = decimal (n * 10 + (c .code - 0x30)) cs
+
+-- "Above 65,535 it is an error, and the kept remainder is the number modulo 65,536."
+unfoldable pub noted : ℕ → Noted
+noted n = record { value = n % 65536; over = ltb 65535 n }
+
+-- the digits at a place
+unfoldable pub digitsAt : List ℕ → TextPlace → List Ch
+digitsAt t at = takeWhile isDigit (charsFrom t (at .0))
+
+-- what the digits between two places come to, where they spell a number that is kept so
+unfoldable pub numberFrom : Noted → TextPlace → TextPlace → NumberRead
+numberFrom k at end =
+    pick (eqb (at .0) (end .0))
+    (record { number = Number.Nothing; digits = rangeOf at end; fault = Fault.Clean })
+    (record {
+      number = Number.Given (k .value);
+      digits = rangeOf at end;
+      fault = pick (k .over) (Fault.TooLarge (rangeOf at end)) Fault.Clean;
+    })
+
+-- "A number is one or more ASCII digits." Kind 7 where it is too large.
+unfoldable pub numberRead : List ℕ → TextPlace → NumberRead
+numberRead t at = numberFrom (noted (decimal 0 (digitsAt t at))) at (place (runEnd isDigit t (at .0)))

@@ -1,0 +1,410 @@
+// The leaves of the reader, each at a place of the text: a character, whitespace, a word, a number, a count, a run of literal text.
+use frame::Frame;
+use frame::SnippetPlace;
+use frame::Span;
+use frame::TextPlace;
+use frame::TextRange;
+use unicode::Seen;
+ghost use mathlib.Core.Path.{_≡_};
+ghost use Prim.Native.Nat.{ℕ, _+_, _*_, _<_};
+ghost use Rattle.frame.specs.Spans.{Small};
+ghost use Rattle.unicode.specs.Choice.{either};
+ghost use Rattle.scan.specs.Characters.{isAt, pastAt, consumed, spacesPast, isPlain, textEnd};
+ghost use Rattle.scan.specs.Ends.{endOf, spanAcross};
+ghost use Rattle.scan.specs.Words.{isDigit, wordEnd, wordRead, noted, numberFrom, numberRead};
+ghost use Rattle.scan.specs.Counts.{isEmpty, numberCount, nameCount, countRead};
+
+// What a part of the reader found wrong: document 01's error kinds, with the places that their records are made from.
+pub enum Fault {
+    // Nothing is wrong.
+    Clean,
+    // 1: a lone `}`.
+    Unmatched(TextPlace),
+    // 2: a `}` was expected where this character stands; the span that says why.
+    Expected(TextPlace, Span),
+    // 3: a `}` was expected at the end; the span that says why.
+    Unclosed(Span),
+    // 4: an `r#` name, its prefix included.
+    RawName(TextRange),
+    // 5: the `?` before a `#`, `x` or `X`.
+    AfterDebug(TextPlace),
+    // 6: the word `_`.
+    Underscore(TextRange),
+    // 7: the digits of a number above 65,535.
+    TooLarge(TextRange),
+    // 8: a `?` before `:`, and the word after them.
+    DebugFirst(TextPlace, TextRange),
+    // 9: a `?` before `}`, without a colon.
+    NoColon(TextPlace),
+    // 10: an `=` before `}`; the opening brace.
+    Equals(TextPlace, Span),
+    // 11: an align that is misplaced.
+    Misplaced(TextPlace),
+    // 12: a `+` without a colon.
+    PlusFirst(TextPlace),
+    // 13: a field access, from the place's start to the field's end.
+    Field(TextPlace, TextPlace),
+    // 14: a tuple index, likewise.
+    TupleIndex(TextPlace, TextPlace),
+    // 15: a `,`; the opening brace.
+    Comma(TextPlace, Span),
+}
+
+// Whether a character was there and was passed, and where reading stands.
+pub struct Consumed {
+    pub ate: bool,
+    pub at: TextPlace,
+}
+
+// A word, empty where none stands.
+pub struct WordRead {
+    pub word: TextRange,
+    pub fault: Fault,
+}
+
+// A number modulo 65,536, and whether it is above 65,535.
+pub struct Noted {
+    pub value: u16,
+    pub over: bool,
+}
+
+pub enum Number {
+    Nothing,
+    Given(u16),
+}
+
+pub struct NumberRead {
+    pub number: Number,
+    pub digits: TextRange,
+    pub fault: Fault,
+}
+
+// A width or a precision.
+pub enum Count {
+    Implied,
+    Fixed(u16),
+    ByName(TextRange, Span),
+    ByArgument(u16),
+    ByStar(usize),
+}
+
+pub struct CountRead {
+    pub count: Count,
+    pub at: TextPlace,
+    pub fault: Fault,
+}
+
+// Whether the character at a place is the ASCII character `c`. No other character has a byte below 80 (hex), so one byte tells.
+pub fn peek_is(text: &[u8], at: TextPlace, c: u8) -> bool
+    requires { ⌜ c < 0x80 ⌝ }
+    ensures { λ r. ⌜ r ≡ isAt (now (text .entry)) at c ⌝ }
+{
+    let i = at.0;
+    if i < text.len() { text[i] == c } else { false }
+}
+
+// Passes the ASCII character `c` if it stands at the place.
+pub fn consume(text: &[u8], at: TextPlace, c: u8) -> Consumed
+    requires { ⌜ c < 0x80 ⌝ }
+    ensures { λ r. ⌜ r ≡ consumed (now (text .entry)) at c ⌝ }
+{
+    let i = at.0;
+    if i < text.len() {
+        if text[i] == c {
+            return Consumed {
+                ate: true,
+                at: TextPlace(i + 1),
+            };
+        }
+    }
+    Consumed { ate: false, at }
+}
+
+// The place after the character at a place; the end stays where it is.
+pub fn past(text: &[u8], at: TextPlace) -> TextPlace
+    ensures { λ r. ⌜ r ≡ pastAt (now (text .entry)) at ⌝ }
+{
+    let i = at.0;
+    match unicode::peek(text, i) {
+        Seen::Char { code: _, width } => TextPlace(i + width),
+        Seen::End => at,
+    }
+}
+
+// The place after the whitespace at a place.
+pub fn ws(text: &[u8], at: TextPlace) -> TextPlace
+    ensures { λ r. ⌜ r ≡ spacesPast (now (text .entry)) at ⌝ }
+{
+    let i = at.0;
+    TextPlace(unicode::space_end(text, i))
+}
+
+fn is_plain(code: u32) -> bool
+    ensures { λ r. ⌜ r ≡ isPlain code ⌝ }
+{
+    if code == 0x7B {
+        return false;
+    }
+    code != 0x7D
+}
+
+// The end of the literal text at a place: the next brace, or the end of the text.
+pub fn string_end(text: &[u8], at: TextPlace) -> TextPlace
+    ensures { λ r. ⌜ r ≡ textEnd (now (text .entry)) at ⌝ }
+{
+    let mut i = at.0;
+    loop {
+        match unicode::peek(text, i) {
+            Seen::Char { code, width } => {
+                if is_plain(code) {
+                    i += width;
+                } else {
+                    return TextPlace(i);
+                }
+            }
+            Seen::End => {
+                return TextPlace(i);
+            }
+        }
+    }
+}
+
+// The snippet place where the character at a text place ends.
+pub fn end_of(text: &[u8], frame: Frame, at: TextPlace) -> SnippetPlace
+    requires { ⌜ Small (now text) frame ⌝ }
+    ensures { λ r. ⌜ r ≡ endOf (now (text .entry)) frame at ⌝ }
+{
+    let i = at.0;
+    match unicode::peek(text, i) {
+        Seen::Char { code: _, width } => {
+            let end = TextPlace(i + width);
+            frame::to_snippet(frame, end)
+        }
+        Seen::End => frame.end,
+    }
+}
+
+// From the start of one character to the end of another.
+pub fn span_across(text: &[u8], frame: Frame, first: TextPlace, last: TextPlace) -> Span
+    requires { ⌜ Small (now text) frame ⌝ }
+    ensures { λ r. ⌜ r ≡ spanAcross (now (text .entry)) frame first last ⌝ }
+{
+    let start = frame::start_of(text, frame, first);
+    let end = end_of(text, frame, last);
+    Span { start, end }
+}
+
+// Where the word at a place ends.
+fn word_end(text: &[u8], at: TextPlace) -> TextPlace
+    ensures { λ r. ⌜ r ≡ wordEnd (now (text .entry)) at ⌝ }
+{
+    let i = at.0;
+    match unicode::peek(text, i) {
+        Seen::Char { code, width } => {
+            if unicode::is_start(code) {
+                return TextPlace(unicode::continue_end(text, i + width));
+            }
+            at
+        }
+        Seen::End => at,
+    }
+}
+
+// The word at a place: one start, then continuations as far as they go. The word `_` is a fault.
+pub fn word(text: &[u8], at: TextPlace) -> WordRead
+    ensures { λ r. ⌜ r ≡ wordRead (now (text .entry)) at ⌝ }
+{
+    let end = word_end(text, at);
+    let word = TextRange { start: at, end };
+    if peek_is(text, at, b'_') {
+        if end.0 == at.0 + 1 {
+            return WordRead {
+                word,
+                fault: Fault::Underscore(word),
+            };
+        }
+    }
+    WordRead {
+        word,
+        fault: Fault::Clean,
+    }
+}
+
+fn or(a: bool, b: bool) -> bool
+    ensures { λ r. ⌜ r ≡ either a b ⌝ }
+{
+    if a { true } else { b }
+}
+
+// A sum that wraps on purpose, with the overflow noted beside it.
+fn add_noted(a: u16, b: u16) -> Noted
+    ensures { λ r. ⌜ r ≡ noted (a + b) ⌝ }
+{
+    let sum = std::num::wrapping_add_u16(a, b);
+    Noted {
+        value: sum,
+        over: sum < a,
+    }
+}
+
+// Ten times x, from sums that wrap: 2x, 4x, 5x, 10x.
+fn times_ten(x: u16) -> Noted
+    ensures { λ r. ⌜ r ≡ noted (x * 10) ⌝ }
+{
+    let two = add_noted(x, x);
+    let four = add_noted(two.value, two.value);
+    let five = add_noted(four.value, x);
+    let ten = add_noted(five.value, five.value);
+    Noted {
+        value: ten.value,
+        over: or(two.over, or(four.over, or(five.over, ten.over))),
+    }
+}
+
+// The number n with the digit d after it. An overflow that was noted stays noted.
+fn then_digit(n: Noted, d: u16) -> Noted
+    requires { ⌜ d < 10 ⌝ }
+    ensures { λ r. ⌜ ((m : ℕ) → n ≡ noted m → r ≡ noted (m * 10 + d)) ⌝ }
+{
+    let tens = times_ten(n.value);
+    let sum = add_noted(tens.value, d);
+    Noted {
+        value: sum.value,
+        over: or(n.over, or(tens.over, sum.over)),
+    }
+}
+
+fn is_digit(code: u32) -> bool
+    ensures { λ r. ⌜ r ≡ isDigit code ⌝ }
+{
+    if 0x30 <= code { code <= 0x39 } else { false }
+}
+
+// The digits at a place as a number; above 65,535 it is a fault, and the remainder is kept.
+pub fn integer(text: &[u8], at: TextPlace) -> NumberRead
+    ensures { λ r. ⌜ r ≡ numberRead (now (text .entry)) at ⌝ }
+{
+    let mut kept = Noted {
+        value: 0,
+        over: false,
+    };
+    let mut i = at.0;
+    loop {
+        match unicode::peek(text, i) {
+            Seen::Char { code, width } => {
+                if is_digit(code) {
+                    kept = then_digit(kept, (code - 0x30) as u16);
+                    i += width;
+                } else {
+                    return number_of(kept, at, TextPlace(i));
+                }
+            }
+            Seen::End => {
+                return number_of(kept, at, TextPlace(i));
+            }
+        }
+    }
+}
+
+// What digits between two places come to, with the number that they spell.
+fn number_of(kept: Noted, at: TextPlace, end: TextPlace) -> NumberRead
+    ensures { λ r. ⌜ r ≡ numberFrom kept at end ⌝ }
+{
+    let digits = TextRange { start: at, end };
+    if at.0 == end.0 {
+        return NumberRead {
+            number: Number::Nothing,
+            digits,
+            fault: Fault::Clean,
+        };
+    }
+    let number = Number::Given(kept.value);
+    if kept.over {
+        return NumberRead {
+            number,
+            digits,
+            fault: Fault::TooLarge(digits),
+        };
+    }
+    NumberRead {
+        number,
+        digits,
+        fault: Fault::Clean,
+    }
+}
+
+// Whether a range holds nothing.
+pub fn is_empty(range: TextRange) -> bool
+    ensures { λ r. ⌜ r ≡ isEmpty range ⌝ }
+{
+    range.start.0 == range.end.0
+}
+
+// A count that began with a number: `$` after it makes it an argument's.
+fn number_count(text: &[u8], value: u16, at: TextPlace, fault: Fault) -> CountRead
+    ensures { λ r. ⌜ r ≡ numberCount (now (text .entry)) value at fault ⌝ }
+{
+    let dollar = consume(text, at, b'$');
+    let end = dollar.at;
+    if dollar.ate {
+        return CountRead {
+            count: Count::ByArgument(value),
+            at: end,
+            fault,
+        };
+    }
+    CountRead {
+        count: Count::Fixed(value),
+        at,
+        fault,
+    }
+}
+
+// A count that is a word with `$` after it. A word without one is given back, and its fault is kept.
+fn name_count(text: &[u8], frame: Frame, at: TextPlace) -> CountRead
+    requires { ⌜ Small (now text) frame ⌝ }
+    ensures { λ r. ⌜ r ≡ nameCount (now (text .entry)) frame at ⌝ }
+{
+    let read = word(text, at);
+    let name = read.word;
+    let fault = read.fault;
+    let end = name.end;
+    if is_empty(name) {
+        return CountRead {
+            count: Count::Implied,
+            at,
+            fault,
+        };
+    }
+    let dollar = consume(text, end, b'$');
+    let past = dollar.at;
+    if dollar.ate {
+        let span = frame::span_between(text, frame, at, end);
+        return CountRead {
+            count: Count::ByName(name, span),
+            at: past,
+            fault,
+        };
+    }
+    CountRead {
+        count: Count::Implied,
+        at,
+        fault,
+    }
+}
+
+// The count at a place: a number, number`$`, word`$`, or nothing.
+pub fn count_at(text: &[u8], frame: Frame, at: TextPlace) -> CountRead
+    requires { ⌜ Small (now text) frame ⌝ }
+    ensures { λ r. ⌜ r ≡ countRead (now (text .entry)) frame at ⌝ }
+{
+    let read = integer(text, at);
+    let number = read.number;
+    let digits = read.digits;
+    let fault = read.fault;
+    let end = digits.end;
+    match number {
+        Number::Given(value) => number_count(text, value, end, fault),
+        Number::Nothing => name_count(text, frame, at),
+    }
+}
