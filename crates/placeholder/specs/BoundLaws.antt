@@ -1,0 +1,58 @@
+-- How far the next argument's number moves: by one over a spec, which has at most one star, and by one more over a place.
+-- Rests on Parts, Format, Specs and Arguments.
+use Prim.Native.Nat.{ℕ, _+_, _≤_}
+use mathlib.Core.List.{List}
+use native.Mathlib.Omega.{arith}
+use Rattle.unicode.specs.ChoiceLaws.{pick-elim}
+use Rattle.frame.specs.declared.TextPlace.{TextPlace}
+use Rattle.frame.specs.declared.Frame.{Frame}
+use Rattle.scan.specs.Characters.{spacesPast}
+use Rattle.placeholder.specs.Parts.{afterDot, precisionRead}
+use Rattle.placeholder.specs.Format.{formatRead}
+use Rattle.placeholder.specs.Places.{placeRead}
+use Rattle.placeholder.specs.Specs.{afterColon, specRead}
+use Rattle.placeholder.specs.Arguments.{resolved, argumentRead}
+use Rattle.placeholder.specs.declared.Mode.{Mode}
+use Rattle.placeholder.specs.declared.position.Found.{Found}
+use Rattle.placeholder.specs.declared.format.PrecisionRead.{PrecisionRead}
+use Rattle.placeholder.specs.declared.format.SpecRead.{SpecRead}
+
+module _ (t : List ℕ) (f : Frame) where
+  -- a star takes one argument
+  pub after-dot-next : (dot at : TextPlace) (n : ℕ) → afterDot t f dot at n .next ≤ n + 1
+  unfolding afterDot
+  after-dot-next dot at n = pick-elim (λ (r : PrecisionRead). r .next ≤ n + 1) _ (λ _. omega arith) (λ _. omega arith)
+
+  -- a precision takes at most one
+  pub precision-next : (at : TextPlace) (n : ℕ) → precisionRead t f at n .next ≤ n + 1
+  unfolding precisionRead
+  precision-next at n = pick-elim (λ (r : PrecisionRead). r .next ≤ n + 1) _ (λ _. after-dot-next at _ n) (λ _. omega arith)
+
+  -- and so does a Format spec
+  pub format-next : (at : TextPlace) (n : ℕ) → formatRead t f at n .next ≤ n + 1
+  unfolding formatRead
+  format-next at n = precision-next _ n
+
+  -- after a colon, in any mode
+  after-colon-next : (m : Mode) (colon at : TextPlace) (n : ℕ) → afterColon t f m colon at n .next ≤ n + 1
+  after-colon-next Mode.Format colon at n = format-next at n
+  after-colon-next Mode.InlineAsm colon at n = omega arith
+  after-colon-next Mode.Diagnostic colon at n = omega arith
+
+  -- a spec takes at most one argument
+  pub spec-next : (m : Mode) (at : TextPlace) (n : ℕ) → specRead t f m at n .next ≤ n + 1
+  unfolding specRead
+  spec-next m at n = pick-elim (λ (r : SpecRead). r .next ≤ n + 1) _ (λ _. after-colon-next m at _ n) (λ _. omega arith)
+
+-- a place takes at most one
+pub resolved-next : (x : Found) (n : ℕ) → resolved x n .next ≤ n + 1
+resolved-next Found.Nothing n = omega arith
+resolved-next (Found.Number k) n = omega arith
+resolved-next (Found.Word r) n = omega arith
+
+-- what stands between two braces takes at most two
+pub argument-next : (t : List ℕ) (f : Frame) (m : Mode) (at : TextPlace) (n : ℕ) → argumentRead t f m at n .next ≤ n + 2
+unfolding argumentRead
+argument-next t f m at n =
+    let to = spacesPast t (placeRead t at .at) in
+    omega (arith, resolved-next (placeRead t at .found) (specRead t f m to n .next), spec-next t f m to n)

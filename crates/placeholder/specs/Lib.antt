@@ -1,0 +1,11 @@
+pub mod Places
+pub mod Parts
+pub mod Types
+pub mod Format
+pub mod Specs
+pub mod Arguments
+pub mod BoundLaws
+pub mod Defaults
+pub mod Recovery
+pub mod Wholes
+pub mod OnwardLaws

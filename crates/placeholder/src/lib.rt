@@ -1,0 +1,93 @@
+// What stands between two braces: a place, a spec in each mode's grammar, what is found wrong there, and how reading goes on after it.
+use frame::Span;
+use frame::TextPlace;
+use frame::TextRange;
+use scan::Count;
+use scan::Fault;
+
+pub mod position; // position.rt: the place: a number, a word, or nothing
+pub mod format; // format.rt: the Format spec, a part at a time
+pub mod modes; // modes.rt: the spec of each mode
+pub mod between; // between.rt: all between the braces
+pub mod recover; // recover.rt: what is said, and passed, where no closing brace stands
+pub mod whole; // whole.rt: a placeholder from its opening brace
+
+// Which grammar a text is read by.
+pub enum Mode {
+    Format,
+    InlineAsm,
+    Diagnostic,
+}
+
+// Where an argument is found: the next one, the one with a number, the one with a name.
+pub enum Place {
+    Next(usize),
+    At(u16),
+    Named(TextRange),
+}
+
+pub enum MaybeSpan {
+    Absent,
+    Present(Span),
+}
+
+// The fill character's code, and its span.
+pub enum Fill {
+    Absent,
+    Present(u32, Span),
+}
+
+pub enum Align {
+    Unknown,
+    Left,
+    Right,
+    Center,
+}
+
+pub enum Sign {
+    Absent,
+    Plus,
+    Minus,
+}
+
+// The `x` of `x?`, or the `X` of `X?`.
+pub enum Hex {
+    Absent,
+    Lower,
+    Upper,
+}
+
+// How an argument is to be written.
+pub struct Spec {
+    pub fill: Fill,
+    pub align: Align,
+    pub sign: Sign,
+    pub alternate: bool,
+    pub zero: bool,
+    pub hex: Hex,
+    pub width: Count,
+    pub widthspan: MaybeSpan,
+    pub precision: Count,
+    pub precisionspan: MaybeSpan,
+    // The type's text, empty where none stands.
+    pub kind: TextRange,
+    pub kindspan: MaybeSpan,
+}
+
+// A placeholder's record.
+pub struct Argument {
+    pub place: Place,
+    pub placespan: Span,
+    pub spec: Spec,
+    // From the opening brace to where reading stood afterwards.
+    pub range: TextRange,
+}
+
+// What one argument found wrong, in the order of reading.
+pub struct ArgumentFaults {
+    pub place: Fault,
+    pub raw: Fault,
+    pub width: Fault,
+    pub precision: Fault,
+    pub kind: Fault,
+}
