@@ -1,6 +1,7 @@
-//! What the programs share: cases and their stream, the Rust's answer to a case, its listing, and
-//! the makers of cases.
+//! What the programs share: cases and their stream, the Rust's answer to a case, its listing, its
+//! agreement with the grammar, and the makers of cases.
 
+pub mod agreement;
 pub mod answer;
 pub mod case;
 pub mod error_record;

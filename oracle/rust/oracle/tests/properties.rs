@@ -1,5 +1,6 @@
 //! Laws that every answer must keep, tried on random cases.
 
+use oracle::agreement::{self, MODES};
 use oracle::answer::Answer;
 use oracle::case::{Case, Next, Stream};
 use oracle::error_record::ErrorRecord;
@@ -95,5 +96,14 @@ fn lists_are_no_longer_than_the_text_allows() {
         assert!(pieces <= characters && errors <= characters);
         assert!(places <= characters / 2 && lines <= characters + 1);
         assert!(case.snippet.is_some() || places + lines == 0);
+    });
+}
+
+#[test]
+fn a_text_without_errors_has_one_reading_and_the_pieces_are_it() {
+    for_readings(15, &[Kind::Text, Kind::Lines], |case, reading| {
+        let mode = MODES[usize::from(case.mode)];
+        let agreed = agreement::readable(reading.text, mode);
+        assert_eq!(agreed, Ok(reading.errors.is_empty()), "{:?} in {mode:?}", reading.text);
     });
 }

@@ -1,7 +1,8 @@
 //! Makes streams of cases on standard output.
 
 use oracle::exit;
-use oracle::make::{bench, every, random};
+use oracle::make::every::Every;
+use oracle::make::{bench, random};
 use std::io::{self, BufWriter, Write};
 use std::process::ExitCode;
 
@@ -28,8 +29,10 @@ fn main() -> ExitCode {
 /// Makes the stream that is asked for; nothing if the words make no sense.
 fn make(words: &[&str], output: &mut impl Write) -> Option<io::Result<()>> {
     match words {
-        ["all", length, alphabet] => every_text(length, alphabet, "", output),
-        ["all", length, alphabet, prefix] => every_text(length, alphabet, prefix, output),
+        ["all", length, alphabet] => Some(Every::from_words(length, alphabet, "")?.write(output)),
+        ["all", length, alphabet, prefix] => {
+            Some(Every::from_words(length, alphabet, prefix)?.write(output))
+        }
         ["random", seed, count, kinds @ ..] => {
             let kinds = kinds.iter().map(|name| random::kind_named(name));
             let kinds = kinds.collect::<Option<Vec<_>>>()?;
@@ -38,33 +41,4 @@ fn make(words: &[&str], output: &mut impl Write) -> Option<io::Result<()>> {
         ["bench"] => Some(bench::cases().iter().try_for_each(|draft| draft.case().write(output))),
         _ => None,
     }
-}
-
-fn every_text(
-    length: &str,
-    alphabet: &str,
-    prefix: &str,
-    output: &mut impl Write,
-) -> Option<io::Result<()>> {
-    let alphabet: Vec<char> = unescape(alphabet).chars().collect();
-    if alphabet.is_empty() {
-        return None;
-    }
-    Some(every::write(length.parse().ok()?, &alphabet, &unescape(prefix), output))
-}
-
-/// The characters that are awkward to write in a shell.
-fn unescape(word: &str) -> String {
-    let mut result = String::new();
-    let mut characters = word.chars();
-    while let Some(c) = characters.next() {
-        let escaped = if c == '\\' { characters.next() } else { None };
-        result.push(match escaped {
-            Some('n') => '\n',
-            Some('t') => '\t',
-            Some(other) => other,
-            None => c,
-        });
-    }
-    result
 }

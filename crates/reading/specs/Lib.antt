@@ -1,0 +1,12 @@
+-- Definitions (Steps, Faults, Records, Lines, Lists, Texts), their laws, and computed cases (Bench, Examples).
+pub mod Steps
+pub mod StepLaws
+pub mod Faults
+pub mod Records
+pub mod Lines
+pub mod LineLaws
+pub mod Lists
+pub mod ListLaws
+pub mod Texts
+pub mod Bench
+pub mod Examples

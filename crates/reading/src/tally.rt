@@ -1,0 +1,167 @@
+// How many records each list of a reading needs.
+use crate::Counts;
+use crate::Onward;
+use crate::State;
+use crate::Step;
+use frame::Frame;
+use frame::TextPlace;
+use frame::TextRange;
+use placeholder::Mode;
+use placeholder::whole::Closing;
+use unicode::Seen;
+ghost use mathlib.Core.Path.{_≡_};
+ghost use Prim.Native.Nat.{_+_, _≤_, _<_};
+ghost use lib.ListN.{length};
+ghost use Rattle.frame.specs.Spans.{Small};
+ghost use Rattle.reading.specs.Lines.{charsIn, newlines};
+ghost use Rattle.reading.specs.Lists.{Countable, sum, countsOf, pieceCount, placeCount, closingLines, lineCount, stepCounts};
+
+// How many newlines stand in a part of the text.
+fn newlines_in(text: &[u8], part: TextRange) -> usize
+    ensures { λ r. ⌜ (r ≡ newlines (charsIn (now (text .entry)) part)) × (r ≤ length (now (text .entry))) ⌝ }
+{
+    let end = part.end.0;
+    let mut i = part.start.0;
+    let mut n = 0;
+    while i < end {
+        match unicode::peek(text, i) {
+            Seen::Char { code, width } => {
+                if code == 0x0A {
+                    n += 1;
+                }
+                i += width;
+            }
+            Seen::End => {
+                return n;
+            }
+        }
+    }
+    n
+}
+
+// A step's pieces: one for a literal and for a placeholder.
+fn piece_count(step: Step) -> usize
+    ensures { λ r. ⌜ r ≡ pieceCount step ⌝ }
+{
+    match step {
+        Step::End => 0,
+        Step::Stop(_) => 0,
+        Step::Literal(_) => 1,
+        Step::Placeholder(_) => 1,
+    }
+}
+
+// A step's argument places: one for a closed placeholder.
+fn place_count(step: Step) -> usize
+    ensures { λ r. ⌜ r ≡ placeCount step ⌝ }
+{
+    match step {
+        Step::End => 0,
+        Step::Stop(_) => 0,
+        Step::Literal(_) => 0,
+        Step::Placeholder(read) => {
+            let closing = read.closing;
+            match closing {
+                Closing::Closed(_) => 1,
+                Closing::Missing(_, _) => 0,
+            }
+        }
+    }
+}
+
+// The lines that end in the text passed where a closing brace is missing.
+fn closing_lines(text: &[u8], closing: Closing) -> usize
+    ensures { λ r. ⌜ (r ≡ closingLines (now (text .entry)) closing) × (r ≤ length (now (text .entry))) ⌝ }
+{
+    match closing {
+        Closing::Closed(_) => 0,
+        Closing::Missing(_, on) => {
+            let part = on.text;
+            newlines_in(text, part)
+        }
+    }
+}
+
+// A step's line spans: one for each newline in its literal text, and the last line at the end.
+fn line_count(text: &[u8], step: Step) -> usize
+    requires { ⌜ length (now text) ≤ 65535 ⌝ }
+    ensures { λ r. ⌜ (r ≡ lineCount (now (text .entry)) step) × (r ≤ 131070) ⌝ }
+{
+    match step {
+        Step::End => 1,
+        Step::Stop(_) => 0,
+        Step::Literal(view) => newlines_in(text, view),
+        Step::Placeholder(read) => {
+            let part = read.text;
+            let closing = read.closing;
+            newlines_in(text, part) + closing_lines(text, closing)
+        }
+    }
+}
+
+// What a step adds to each list. Only source literals give argument places and line spans.
+fn step_counts(text: &[u8], frame: Frame, step: Step) -> Counts
+    requires { ⌜ Small (now text) frame ⌝ }
+    ensures { λ r. ⌜ (r ≡ stepCounts (now (text .entry)) frame step) × Countable 131070 r ⌝ }
+{
+    let pieces = piece_count(step);
+    let errors = crate::faults::fault_count(step);
+    if frame.literal {
+        return Counts {
+            pieces,
+            errors,
+            places: place_count(step),
+            lines: line_count(text, step),
+        };
+    }
+    Counts {
+        pieces,
+        errors,
+        places: 0,
+        lines: 0,
+    }
+}
+
+fn add(a: Counts, b: Counts) -> Counts
+    requires { ⌜ Countable 0xFFFFFFFFFFFF a × Countable 131070 b ⌝ }
+    ensures { λ r. ⌜ r ≡ sum a b ⌝ }
+{
+    Counts {
+        pieces: a.pieces + b.pieces,
+        errors: a.errors + b.errors,
+        places: a.places + b.places,
+        lines: a.lines + b.lines,
+    }
+}
+
+// How many records the reading of a text needs in each list.
+pub fn tally(text: &[u8], frame: Frame, mode: Mode) -> Counts
+    requires { ⌜ Small (now text) frame ⌝ }
+    ensures { λ r. ⌜ r ≡ countsOf (now (text .entry)) frame mode ⌝ }
+{
+    let mut state = State {
+        at: TextPlace(0),
+        next: 0,
+    };
+    let mut counts = Counts {
+        pieces: 0,
+        errors: 0,
+        places: 0,
+        lines: 0,
+    };
+    let mut left = text.len() + 1;
+    while 0 < left {
+        let step = crate::steps::step_at(text, frame, mode, state);
+        counts = add(counts, step_counts(text, frame, step));
+        match crate::steps::go_on(state, step) {
+            Onward::Over => {
+                return counts;
+            }
+            Onward::To(after) => {
+                state = after;
+                left -= 1;
+            }
+        }
+    }
+    counts
+}
