@@ -1,0 +1,33 @@
+-- The lists at exit. "A refusal changes no list. Done fills the first records of each list; the rest stay."
+use Prim.Native.Nat.{ℕ, _*_}
+use mathlib.Core.Path.{_≡_}
+use mathlib.Core.List.{List, [], _∷_, _++_}
+use lib.Dec.{eqb}
+use lib.ListN.{length, drop}
+use Rattle.unicode.specs.Choice.{pick}
+use Rattle.frame.specs.declared.Span.{Span}
+use Rattle.reading.specs.Lists.{pieces, errors, places, lines}
+use Rattle.reading.specs.declared.Piece.{Piece}
+use Rattle.reading.specs.declared.ErrorRecord.{ErrorRecord}
+use Rattle.answer.specs.Answers.{frameFor, modeFor}
+use Rattle.answer.specs.declared.Request.{Request}
+
+-- records over the first of a list
+unfoldable pub over : {A : Type 0} → List A → List A → List A
+over new old = new ++ drop (length new) old
+
+-- a span is two numbers of its list: start, end
+unfoldable pub pairs : List Span → List ℕ
+pairs [] = []
+pairs (x ∷ xs) = x .start .0 ∷ x .end .0 ∷ pairs xs
+
+-- what a list holds at exit: the records where the call is done, else what it held
+unfoldable pub atExit : {A : Type 0} → ℕ → List A → List A → List A
+atExit number new old = pick (eqb number 0) (over new old) old
+
+-- the four lists at exit, from what they held and the answer's number, refused calls too
+pub record Filled (t s : List ℕ) (q : Request) (number : ℕ) (ps ps′ : List Piece) (es es′ : List ErrorRecord) (ls ls′ ns ns′ : List ℕ) : Type 0 where
+  pub pieces : ps′ ≡ atExit number (pieces t (frameFor t s q) (modeFor q)) ps
+  pub errors : es′ ≡ atExit number (errors t (frameFor t s q) (modeFor q)) es
+  pub places : ls′ ≡ atExit number (pairs (places t (frameFor t s q) (modeFor q))) ls
+  pub lines : ns′ ≡ atExit number (pairs (lines t (frameFor t s q) (modeFor q))) ns

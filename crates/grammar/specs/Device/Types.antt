@@ -1,0 +1,130 @@
+-- The type of a Format spec, and the words that are a type, where codes stand. Rests on Words.
+use mathlib.Core.Path.{_≡_, refl, ap, sym, _∙_}
+use mathlib.Core.List.{List, [], _∷_}
+use mathlib.Core.Bool.{Bool, true, false, not}
+use Prim.Native.Nat.{ℕ, _+_}
+use native.Mathlib.Nat.{add-zero}
+use native.Mathlib.Omega.{arith}
+use lib.Dec.{eqb}
+use Rattle.unicode.specs.Choice.{pick}
+use Rattle.unicode.specs.Questions.{isStart, isContinue}
+use Rattle.frame.specs.Places.{place, rangeOf}
+use Rattle.frame.specs.declared.TextPlace.{TextPlace}
+use Rattle.frame.specs.declared.Frame.{Frame}
+use Rattle.scan.specs.declared.Fault.{Fault}
+use Rattle.placeholder.specs.Recovery.{isClean}
+use Rattle.placeholder.specs.Types.{hexType, isHexOrHash, debugType, wordType, typeRead}
+use Rattle.placeholder.specs.declared.Hex.{Hex}
+use Rattle.placeholder.specs.declared.format.TypeRead.{TypeRead}
+use Rattle.grammar.specs.Grammar.{Letter, lower, upper, Kind, untyped, debug, hex}
+use Rattle.grammar.specs.Pieces.{size, bytes, bytesAt, letterOf, kindOf as kindRange, hexOf as hexRecord}
+use Rattle.grammar.specs.Device.Runs.{caseB, takeW, dropW, Stops}
+use Rattle.grammar.specs.Device.Parser.{Got, got, okWord, okDebug, hexOf, typedOf, kindOf}
+use Rattle.grammar.specs.Device.Stands.{Stands, is-at, consume-yes, consume-no, past-ascii}
+use Rattle.grammar.specs.Device.Words.{clean-pick, past-word, word-none, wordOf, word-some}
+
+module _ (t : List ℕ) where
+  pub record KindSame (at : TextPlace) (g : Got Kind) (r : TypeRead) : Type 0 where
+    pub stands : Stands t (r .at .0) (g .rest)
+    pub clean : isClean (r .fault) ≡ g .ok
+    pub hex : r .hex ≡ hexRecord (g .val)
+    pub kind : r .kind ≡ kindRange (at .0) (g .val)
+
+  -- `x`, `X`, `x?`, `X?`
+  two-on : (i : ℕ) → bytes (i + 1) (i + 1 + 1) ≡ bytes (i + 1) (i + 2)
+  two-on i = let e : i + 1 + 1 ≡ i + 2 = omega arith in ap (λ j. bytes (i + 1) j) e
+
+  hex-same : (at : TextPlace) (x : Letter) (cs : List ℕ) → Stands t (at .0 + 1) cs →
+      KindSame at (hexOf x cs) (hexType t (letterOf x) at (place (at .0 + 1)))
+  unfolding hexOf hexType pick
+  hex-same at x [] h =
+      rw (consume-no t (place (at .0 + 1)) 0x3F [] h refl) (record { stands = h; clean = refl; hex = refl; kind = refl })
+  hex-same at x (c ∷ cs) h =
+      let p : TextPlace = place (at .0 + 1) in
+      caseB (eqb c 0x3F)
+      (λ k.
+      rw (consume-yes t p 0x3F (c ∷ cs) h k, k, hexOf)
+      (record { stands = past-ascii t (at .0 + 1) 0x3F c cs (omega arith) h k; clean = refl; hex = refl; kind = two-on (at .0) }))
+      (λ k. rw (consume-no t p 0x3F (c ∷ cs) h k, k, hexOf) (record { stands = h; clean = refl; hex = refl; kind = refl }))
+
+  -- `?`
+  clean-not : (b : Bool) (x : Fault) → isClean x ≡ false → isClean (pick b x Fault.Clean) ≡ not b
+  unfolding pick
+  clean-not true x h = h
+  clean-not false x h = refl
+
+  hex-or-hash : (at : TextPlace) (cs : List ℕ) → Stands t (at .0) cs → not (isHexOrHash t at) ≡ okDebug cs
+  unfolding isHexOrHash okDebug pick
+  hex-or-hash at [] h = rw (is-at t at 0x23 [] h, is-at t at 0x78 [] h, is-at t at 0x58 [] h)
+  hex-or-hash at (c ∷ cs) h =
+      rw (is-at t at 0x23 (c ∷ cs) h, is-at t at 0x78 (c ∷ cs) h, is-at t at 0x58 (c ∷ cs) h)
+      (caseB (eqb c 0x23) (λ k. rw k) (λ k. rw k (caseB (eqb c 0x78) (λ l. rw l) (λ l. rw l))))
+
+  debug-same : (at : TextPlace) (cs : List ℕ) → Stands t (at .0 + 1) cs → KindSame at (got debug cs (okDebug cs)) (debugType t at (place (at .0 + 1)))
+  unfolding debugType
+  debug-same at cs h =
+      let p : TextPlace = place (at .0 + 1) in
+      record { stands = h; clean = clean-not (isHexOrHash t p) (Fault.AfterDebug at) refl ∙ hex-or-hash p cs h; hex = refl; kind = refl }
+
+  -- a word, or nothing
+  pub record WordSame (at : TextPlace) (r u : List ℕ) (b : Bool) (x : TypeRead) : Type 0 where
+    pub stands : Stands t (x .at .0) u
+    pub clean : isClean (x .fault) ≡ b
+    pub hex : x .hex ≡ Hex.Absent
+    pub kind : x .kind ≡ bytesAt (at .0) r
+
+  module _ (f : Frame) where
+    pub type-none : (at : TextPlace) (cs : List ℕ) → Stands t (at .0) cs → Stops isStart cs → WordSame at [] cs true (wordType t f at)
+    unfolding wordType size
+    type-none at cs h s =
+        let e : at .0 ≡ at .0 + 0 = sym (add-zero (at .0)) in
+        rw (word-none t at cs h s) (record { stands = h; clean = refl; hex = refl; kind = ap (λ j. bytes (at .0) j) e })
+
+    pub type-some : (at : TextPlace) (c : ℕ) (cs : List ℕ) → Stands t (at .0) (c ∷ cs) → isStart c ≡ true →
+        WordSame at (c ∷ takeW isContinue cs) (dropW isContinue cs) (okWord c (takeW isContinue cs)) (wordType t f at)
+    unfolding wordType wordOf
+    type-some at c cs h s =
+        let r : List ℕ = takeW isContinue cs in
+        rw (word-some t at c cs h s)
+        (record {
+          stands = past-word t at isContinue c cs h;
+          clean = clean-pick (okWord c r) (Fault.Underscore (rangeOf at (place (at .0 + size (c ∷ r))))) refl;
+          hex = refl;
+          kind = refl;
+        })
+
+    no-type : (at : TextPlace) (cs : List ℕ) → Stands t (at .0) cs → Stops isStart cs → KindSame at (got untyped cs true) (wordType t f at)
+    unfolding wordType
+    no-type at cs h s = rw (word-none t at cs h s) (record { stands = h; clean = refl; hex = refl; kind = refl })
+
+    typed-same : (at : TextPlace) (cs : List ℕ) → Stands t (at .0) cs → KindSame at (typedOf cs) (wordType t f at)
+    unfolding typedOf
+    typed-same at [] h = no-type at [] h tt
+    typed-same at (c ∷ cs) h =
+        caseB (isStart c)
+        (λ k.
+        let s = type-some at c cs h k in
+        rw (k, typedOf) (record { stands = s .stands; clean = s .clean; hex = s .hex; kind = s .kind }))
+        (λ k. rw (k, typedOf) (no-type at (c ∷ cs) h k))
+
+    pub kind-same : (at : TextPlace) (cs : List ℕ) → Stands t (at .0) cs → KindSame at (kindOf cs) (typeRead t f at)
+    unfolding kindOf typedOf typeRead pick
+    kind-same at [] h =
+        rw (consume-no t at 0x78 [] h refl, consume-no t at 0x58 [] h refl, consume-no t at 0x3F [] h refl) (no-type at [] h tt)
+    kind-same at (c ∷ cs) h =
+        let us = c ∷ cs in
+        caseB (eqb c 0x78)
+        (λ k. rw (consume-yes t at 0x78 us h k, k, kindOf) (hex-same at lower cs (past-ascii t (at .0) 0x78 c cs (omega arith) h k)))
+        (λ k.
+        caseB (eqb c 0x58)
+        (λ l.
+        rw (consume-no t at 0x78 us h k, consume-yes t at 0x58 us h l, k, l, kindOf)
+        (hex-same at upper cs (past-ascii t (at .0) 0x58 c cs (omega arith) h l)))
+        (λ l.
+        caseB (eqb c 0x3F)
+        (λ m.
+        rw (consume-no t at 0x78 us h k, consume-no t at 0x58 us h l, consume-yes t at 0x3F us h m, k, l, m, kindOf)
+        (debug-same at cs (past-ascii t (at .0) 0x3F c cs (omega arith) h m)))
+        (λ m.
+        rw (consume-no t at 0x78 us h k, consume-no t at 0x58 us h l, consume-no t at 0x3F us h m, k, l, m, kindOf)
+        (typed-same at us h))))

@@ -1,0 +1,79 @@
+-- The whole reading of a text in which codes stand, beside the parser's answer: nothing is wrong exactly where the parser gives elements, and
+-- then the pieces are theirs; and no error is recorded exactly where nothing is wrong. Rests on Steps and Unique.
+use mathlib.Core.Path.{_≡_, refl, ap, sym, _∙_}
+use mathlib.Core.List.{List, [], _∷_, _++_}
+use Prim.Native.Nat.{ℕ, zero, suc, _<_}
+use native.Mathlib.Omega.{arith}
+use lib.ListN.{length}
+use Rattle.frame.specs.declared.Frame.{Frame}
+use Rattle.placeholder.specs.declared.Mode.{Mode}
+use Rattle.reading.specs.Steps.{stepAt, onward, follow, stepsFrom}
+use Rattle.reading.specs.Faults.{stepSlots, wrong as wrongOnes, faultsOf}
+use Rattle.reading.specs.Lists.{gather, piecesOf, faults, errors}
+use Rattle.reading.specs.ListLaws.{errors-length}
+use Rattle.reading.specs.declared.State.{State}
+use Rattle.reading.specs.declared.Step.{Step as ReadStep}
+use Rattle.grammar.specs.Grammar.{Element}
+use Rattle.grammar.specs.Pieces.{endOf, ArePieces}
+use Rattle.grammar.specs.Device.Runs.{never}
+use Rattle.grammar.specs.Device.Parser.{step, Answer, none, some, more, parse}
+use Rattle.grammar.specs.Device.Made.{step-made}
+use Rattle.grammar.specs.Device.Splits.{split}
+use Rattle.grammar.specs.Device.Unique.{caseS, step-shorter, parse-piece, parse-done, parse-wrong}
+use Rattle.grammar.specs.Device.Stands.{Stands}
+use Rattle.grammar.specs.Device.Specs.{part-place}
+use Rattle.grammar.specs.Device.Steps.{Took, step-same}
+
+-- of two lists that come to nothing neither has anything
+pub append-none : {A : Type 0} (xs ys : List A) → xs ++ ys ≡ [] → (xs ≡ []) × (ys ≡ [])
+append-none [] ys h = (refl, h)
+append-none (x ∷ xs) ys h = absurd (never h)
+
+-- NO ERROR IS RECORDED exactly where nothing is wrong: there are as many of the one as of the other
+no-length : {A : Type 0} (xs : List A) → length xs ≡ 0 → xs ≡ []
+no-length [] h = refl
+no-length (x ∷ xs) h = absurd (omega arith)
+
+pub errors-faults : (t : List ℕ) (f : Frame) (m : Mode) → errors t f m ≡ [] → faults t f m ≡ []
+errors-faults t f m h = no-length (faults t f m) (sym (errors-length t f m) ∙ ap length h)
+
+pub faults-errors : (t : List ℕ) (f : Frame) (m : Mode) → faults t f m ≡ [] → errors t f m ≡ []
+faults-errors t f m h = no-length (errors t f m) (errors-length t f m ∙ ap length h)
+
+-- THE WHOLE READING
+abbrev pub Whole : State → Answer → List ReadStep → Type 0
+Whole s none xs = gather faultsOf xs ≡ [] → ⊥
+Whole s (some es) xs = (gather faultsOf xs ≡ []) × ArePieces (s .at .0) (s .next) es (gather piecesOf xs)
+
+module _ (t : List ℕ) (f : Frame) (m : Mode) where
+  -- a step, and then the rest
+  more-whole : (s : State) (e : Element) (u : List ℕ) (x : ReadStep) (k : Took t f m s e u x) → k .to .at .0 ≡ endOf (s .at .0) e →
+      (a : Answer) (xs : List ReadStep) → Whole (k .to) a xs → Whole s (more e a) (x ∷ xs)
+  unfolding more gather
+  more-whole s e u x k p none xs w = λ h. w (append-none (faultsOf x) (gather faultsOf xs) h .1)
+  more-whole s e u x k p (some es) xs w = (
+    rw (k .clean) (w .0),
+    rw (k .pieces) (k .is, rw (← p, ← (k .number)) (w .1)),
+  )
+
+  -- the end
+  ended : (s : State) (x : ReadStep) → x ≡ ReadStep.End → (go : State → List ReadStep) → Whole s (some []) (x ∷ follow go (onward (s .next) x))
+  unfolding gather faultsOf stepSlots wrongOnes
+  ended s x z go = rw z (refl, tt)
+
+  pub whole : (k : ℕ) (s : State) (cs : List ℕ) → Stands t (s .at .0) cs → length cs < k → Whole s (parse m k cs) (stepsFrom k t f m s)
+  unfolding stepsFrom gather
+  whole zero s cs h l = absurd (omega arith)
+  whole (suc k) s cs h l =
+      let x : ReadStep = stepAt t f m s in
+      let y = step-same t f m s cs h in
+      caseS (step m cs)
+      (λ e u q.
+      let z : Took t f m s e u x = rw q at y in
+      let p = part-place t (s .at .0) (z .to .at .0) (split e) cs u (step-made m cs q .spelled) h (z .stands) in
+      rw (parse-piece m k cs q, z .goes)
+      (more-whole s e u x z p (parse m k u) (stepsFrom k t f m (z .to)) (whole k (z .to) u (z .stands) (omega (arith, step-shorter m cs q)))))
+      (λ q. let z : x ≡ ReadStep.End = rw q at y in rw (parse-done m k cs q) (ended s x z (stepsFrom k t f m)))
+      (λ q.
+      let z : faultsOf x ≡ [] → ⊥ = rw q at y in
+      rw (parse-wrong m k cs q) (λ g. z (append-none (faultsOf x) (gather faultsOf (follow (stepsFrom k t f m) (onward (s .next) x))) g .0)))
