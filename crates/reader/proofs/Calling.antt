@@ -1,0 +1,123 @@
+-- What a decision says of the lists: where it is 0 each has room for its records, and a call is what its lists then hold. Facts about lists alone.
+use mathlib.Core.Path.{_≡_, refl, sym, ap, subst, _∙_}
+use mathlib.Core.Bool.{Bool, true, false}
+use mathlib.Core.List.{List}
+use Prim.Native.Nat.{ℕ, _*_, _/_, _≤_}
+use native.Mathlib.Omega.{arith}
+use lib.Dec.{eqb}
+use lib.ListN.{length, replicate}
+use borrow.Author.Tests.{eqb-true}
+use Rattle.unicode.specs.Choice.{pick}
+use Rattle.frame.specs.Spans.{Small}
+use Rattle.frame.specs.declared.Frame.{Frame}
+use Rattle.placeholder.specs.declared.Mode.{Mode}
+use Rattle.reading.specs.Lists.{pieces, errors, places, lines}
+use Rattle.reading.specs.declared.Piece.{Piece}
+use Rattle.reading.specs.declared.ErrorRecord.{ErrorRecord}
+use Rattle.answer.specs.Answers.{frameFor, modeFor, answerOf, Decided}
+use Rattle.answer.specs.AnswerLaws.{Done, decided-done}
+use Rattle.answer.specs.Exits.{over, pairs, atExit}
+use Rattle.answer.specs.Turns.{noPiece}
+use Rattle.answer.specs.declared.Request.{Request}
+use Rattle.answer.specs.declared.Rooms.{Rooms}
+use Rattle.answer.specs.declared.Decision.{Decision}
+use Rattle.reader.specs.declared.call.Reading.{Reading}
+use Rattle.reader.specs.Calls.{roomsOf, Read, noError, noPieces, noErrors, noSpans, rooms256, Read256}
+
+-- a list at exit, where the number is 0 and where it is not
+at-done : {A : Type 0} (n : ℕ) (new old : List A) → eqb n 0 ≡ true → atExit n new old ≡ over new old
+unfolding atExit pick
+at-done n new old z = ap (λ (b : Bool). pick b (over new old) old) z
+
+at-refused : {A : Type 0} (n : ℕ) (new old : List A) → eqb n 0 ≡ false → atExit n new old ≡ old
+unfolding atExit pick
+at-refused n new old z = ap (λ (b : Bool). pick b (over new old) old) z
+
+module _ (ps : List Piece) (es : List ErrorRecord) (ls ns : List ℕ) where
+  -- how many records the lists have room for, as the call counts them
+  abbrev pub rooms : Rooms
+  rooms = record { pieces = length ps; errors = length es; places = length ls / 2; lines = length ns / 2 }
+
+  rooms-are : rooms ≡ roomsOf ps es ls ns
+  unfolding roomsOf
+  rooms-are = refl
+
+  -- each list has room for what a frame and a mode give
+  pub record Ready (t : List ℕ) (f : Frame) (m : Mode) : Type 0 where
+    pub small : Small t f
+    pub pieces : length (pieces t f m) ≤ length ps
+    pub errors : length (errors t f m) ≤ length es
+    pub places : 2 * length (places t f m) ≤ length ls
+    pub lines : 2 * length (lines t f m) ≤ length ns
+
+  module _ (t s : List ℕ) (q : Request) (d : Decision) (decided : Decided t s q rooms d) where
+    -- the lists where the call is refused: as they were
+    pub refused : eqb (d .answer .number) 0 ≡ false → Read t s q ps ps es es ls ls ns ns (d .answer)
+    refused other = record {
+      answer = decided .answer ∙ ap (answerOf t s q) rooms-are;
+      lists = record {
+        pieces = sym (at-refused (d .answer .number) (pieces t (frameFor t s q) (modeFor q)) ps other);
+        errors = sym (at-refused (d .answer .number) (errors t (frameFor t s q) (modeFor q)) es other);
+        places = sym (at-refused (d .answer .number) (pairs (places t (frameFor t s q) (modeFor q))) ls other);
+        lines = sym (at-refused (d .answer .number) (pairs (lines t (frameFor t s q) (modeFor q))) ns other);
+      };
+    }
+
+    module _ (zero : eqb (d .answer .number) 0 ≡ true) where
+      is-zero : d .answer .number ≡ 0
+      is-zero = eqb-true (d .answer .number) 0 zero
+
+      framed : d .frame ≡ frameFor t s q
+      framed = decided .frame is-zero
+
+      moded : d .mode ≡ modeFor q
+      moded = decided .mode is-zero
+
+      at-decision : (P : Frame → Mode → Type 0) → P (frameFor t s q) (modeFor q) → P (d .frame) (d .mode)
+      at-decision P p = subst (λ (f : Frame). P f (d .mode)) (sym framed) (subst (P (frameFor t s q)) (sym moded) p)
+
+      pub ready : Ready t (d .frame) (d .mode)
+      ready = at-decision (Ready t) (record {
+        small = done .small;
+        pieces = done .pieces;
+        errors = done .errors;
+        places = omega (arith, done .places);
+        lines = omega (arith, done .lines);
+      })
+        where
+          done : Done t s q rooms
+          done = decided-done t s q rooms decided is-zero
+
+      -- the lists where the call is done: the records over the first
+      pub finished : (ps′ : List Piece) (es′ : List ErrorRecord) (ls′ ns′ : List ℕ) → ps′ ≡ over (pieces t (d .frame) (d .mode)) ps → es′ ≡ over (errors t (d .frame) (d .mode)) es
+          → ls′ ≡ over (pairs (places t (d .frame) (d .mode))) ls → ns′ ≡ over (pairs (lines t (d .frame) (d .mode))) ns → Read t s q ps ps′ es es′ ls ls′ ns ns′ (d .answer)
+      finished ps′ es′ ls′ ns′ p e l n = record {
+        answer = decided .answer ∙ ap (answerOf t s q) rooms-are;
+        lists = record {
+          pieces = p ∙ the (λ f m. pieces t f m) (λ x. over x ps) ∙ sym (at-done (d .answer .number) (pieces t (frameFor t s q) (modeFor q)) ps zero);
+          errors = e ∙ the (λ f m. errors t f m) (λ x. over x es) ∙ sym (at-done (d .answer .number) (errors t (frameFor t s q) (modeFor q)) es zero);
+          places = l ∙ the (λ f m. places t f m) (λ x. over (pairs x) ls) ∙ sym (at-done (d .answer .number) (pairs (places t (frameFor t s q) (modeFor q))) ls zero);
+          lines = n ∙ the (λ f m. lines t f m) (λ x. over (pairs x) ns) ∙ sym (at-done (d .answer .number) (pairs (lines t (frameFor t s q) (modeFor q))) ns zero);
+        };
+      }
+        where
+          the : {X Y : Type 0} (g : Frame → Mode → X) (k : X → Y) → k (g (d .frame) (d .mode)) ≡ k (g (frameFor t s q) (modeFor q))
+          the g k = ap (λ (f : Frame). k (g f (d .mode))) framed ∙ ap (λ (m : Mode). k (g (frameFor t s q) m)) moded
+
+-- A call with lists of 256 records that hold nothing is one whose lists have room for 256 each.
+rooms-256 : roomsOf noPieces noErrors noSpans noSpans ≡ rooms256
+unfolding roomsOf noPieces noErrors noSpans
+rooms-256 = refl
+
+none : (t s : List ℕ) (q : Request) (x : Reading) → Read t s q (replicate 256 noPiece) (x .pieces) (replicate 256 noError) (x .errors) (replicate 512 0) (x .places) (replicate 512 0) (x .lines) (x .answer)
+    → Read t s q noPieces (x .pieces) noErrors (x .errors) noSpans (x .places) noSpans (x .lines) (x .answer)
+unfolding noPieces noErrors noSpans
+none t s q x read = read
+
+pub read-256 : (t s : List ℕ) (q : Request) (x : Reading) (p : Piece) (e : ErrorRecord) → p ≡ noPiece → e ≡ noError
+    → Read t s q (replicate 256 p) (x .pieces) (replicate 256 e) (x .errors) (replicate 512 0) (x .places) (replicate 512 0) (x .lines) (x .answer) → Read256 t s q x
+read-256 t s q x p e is-p is-e read = record { answer = are .answer ∙ ap (answerOf t s q) rooms-256; lists = are .lists }
+  where
+    are : Read t s q noPieces (x .pieces) noErrors (x .errors) noSpans (x .places) noSpans (x .lines) (x .answer)
+    are = none t s q x (subst (λ (y : Piece). Read t s q (replicate 256 y) (x .pieces) (replicate 256 noError) (x .errors) (replicate 512 0) (x .places) (replicate 512 0) (x .lines) (x .answer)) is-p
+        (subst (λ (y : ErrorRecord). Read t s q (replicate 256 p) (x .pieces) (replicate 256 y) (x .errors) (replicate 512 0) (x .places) (replicate 512 0) (x .lines) (x .answer)) is-e read))
