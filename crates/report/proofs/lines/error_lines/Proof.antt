@@ -1,0 +1,70 @@
+-- `report::lines::error_lines` is safe and ends. The invariant: at most as many error records are listed as a list holds, and the buffer keeps its length.
+-- Assumes nothing.
+use Prim.Native.Nat.{_≤_, _-_}
+use mathlib.Core.Path.{_≡_, refl, _∙_}
+use native.Mathlib.Omega.{arith}
+use borrow.Author.Needs.{needs}
+use lib.ListN.{length}
+use Rattle.report.proofs.lines.error_lines.Statement.{statement}
+use Rattle.report.proofs.lines.error_lines.Tie as tie
+
+abbrev Inv-loop : tie.InvT-loop
+Inv-loop out₀ used full count list end n₀ i₀ out n i = (i ≤ end) × ((end ≤ 1024) × (length out ≡ length out₀))
+
+abbrev μ-loop : tie.MeasureT-loop
+μ-loop out₀ used full count list end n₀ i₀ out n i = end - i
+
+room-requires : tie.Need-room-requires Inv-loop μ-loop
+room-requires c κs = search needs
+
+slice-aggregate-section : tie.Need-slice-aggregate-section Inv-loop μ-loop
+slice-aggregate-section c = omega arith
+
+section-requires : tie.Need-section-requires Inv-loop μ-loop
+section-requires c κs = search needs
+
+loop-holds : tie.Need-loop-holds Inv-loop μ-loop
+loop-holds c = (omega arith, (c .before .before .before .before .before .room .ensures, refl))
+
+mul-error : tie.Need-mul-error Inv-loop μ-loop
+mul-error c = omega arith
+
+array-copy-out-error : tie.Need-array-copy-out-error Inv-loop μ-loop
+array-copy-out-error c = omega arith
+
+error-line-requires : tie.Need-error-line-requires Inv-loop μ-loop
+error-line-requires c κs = search needs
+
+add-i : tie.Need-add-i Inv-loop μ-loop
+add-i c = omega arith
+
+loop-less : tie.Need-loop-less Inv-loop μ-loop
+loop-less c = omega arith
+
+loop-again : tie.Need-loop-again Inv-loop μ-loop
+loop-again c = (omega arith, (omega arith, c .before .out2 .given ∙ c .before .before .before .before .before .before .loop .inv .1 .1))
+
+same-length : tie.Need-same-length Inv-loop μ-loop
+same-length c = c .before .loop .inv .1 .1 ∙ c .before .before .before .out .given
+
+returns : tie.Need-returns Inv-loop μ-loop
+returns c = search needs
+
+pub error-lines-spec : {M : Type 1} → statement M
+error-lines-spec =
+    tie.close
+    (tie.spec
+    Inv-loop
+    μ-loop
+    room-requires
+    slice-aggregate-section
+    section-requires
+    loop-holds
+    mul-error
+    array-copy-out-error
+    error-line-requires
+    add-i
+    loop-less
+    loop-again
+    same-length
+    returns)
