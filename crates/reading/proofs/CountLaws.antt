@@ -8,7 +8,6 @@ use native.Mathlib.Nat.{add-zero, zero-add, add-assoc}
 use native.Mathlib.Omega.{arith}
 use lib.ListN.{length, length-append}
 use Rattle.unicode.specs.Choice.{pick}
-use Rattle.frame.specs.declared.Span.{Span}
 use Rattle.frame.specs.declared.Frame.{Frame}
 use Rattle.placeholder.specs.declared.Mode.{Mode}
 use Rattle.placeholder.specs.declared.whole.Closing.{Closing}
@@ -18,12 +17,13 @@ use Rattle.reading.specs.Faults.{faultsOf}
 use Rattle.reading.specs.Lines.{charsIn, newlines}
 use Rattle.reading.specs.LineLaws.{by-test, newlines-append}
 use Rattle.reading.specs.Lists.{gather, piecesOf, pieces, faults, closedSpan, placesOf, places, missingText, textsOf, literalChars, isEnd, toTheEnd, linesIn, lines, countsOf, pieceCount, closedCount, placeCount, closingLines, lineCount, stepCounts, sum, Countable}
-use Rattle.reading.specs.ListLaws.{gather-more, gather-one, errors-length, literal-more, lines-length}
+use Rattle.reading.specs.ListLaws.{gather-one, errors-length, literal-more, lines-length}
 use Rattle.reading.specs.declared.State.{State}
 use Rattle.reading.specs.declared.Step.{Step}
 use Rattle.reading.specs.declared.Onward.{Onward}
 use Rattle.reading.specs.declared.Counts.{Counts}
 
+-- counts of four numbers
 abbrev made : ℕ → ℕ → ℕ → ℕ → Counts
 made p e a l = record { pieces = p; errors = e; places = a; lines = l }
 
@@ -31,13 +31,15 @@ made p e a l = record { pieces = p; errors = e; places = a; lines = l }
 same : {p e a l p′ e′ a′ l′ : ℕ} → p ≡ p′ → e ≡ e′ → a ≡ a′ → l ≡ l′ → made p e a l ≡ made p′ e′ a′ l′
 same w x y z = cc
 
--- sums of counts
+-- nothing before some counts
 pub sum-zero : (c : Counts) → sum (made 0 0 0 0) c ≡ c
 sum-zero c = same (zero-add _) (zero-add _) (zero-add _) (zero-add _)
 
+-- nothing after them
 sum-nothing : (c : Counts) → sum c (made 0 0 0 0) ≡ c
 sum-nothing c = same (add-zero _) (add-zero _) (add-zero _) (add-zero _)
 
+-- counts added one after the other
 sum-assoc : (a b c : Counts) → sum (sum a b) c ≡ sum a (sum b c)
 sum-assoc a b c = same (add-assoc _ _ _) (add-assoc _ _ _) (add-assoc _ _ _) (add-assoc _ _ _)
 
@@ -89,8 +91,9 @@ step-lines t (Step.Placeholder p) = rw (add-zero, newlines-append) (ap (λ (n : 
 lines-one : (t : List ℕ) (x : Step) → newlines (literalChars t (x ∷ [])) + pick (toTheEnd (x ∷ [])) 1 0 ≡ lineCount t x
 unfolding literalChars gather toTheEnd pick
 lines-one t x =
-    rw append-nil
-    (ap (λ (n : ℕ). newlines (gather (charsIn t) (textsOf x)) + n) (by-test (λ b. _≡_ {A = ℕ} (pick (pick b true false) 1 0) (pick b 1 0)) refl refl (isEnd x)) ∙ step-lines t x)
+    let own = newlines (gather (charsIn t) (textsOf x)) in
+    let same-end = by-test (λ b. _≡_ {A = ℕ} (pick (pick b true false) 1 0) (pick b 1 0)) refl refl (isEnd x) in
+    rw append-nil (ap (λ (n : ℕ). own + n) same-end ∙ step-lines t x)
 
 -- and of those that follow
 lines-more : (t : List ℕ) (x : Step) (xs : List Step) → isEnd x ≡ false →
@@ -135,10 +138,12 @@ unfolding countsIn countsOf pieces faults places lines pick
 counts-all t f m =
     let xs = reading t f m in
     let spans = gather (placesOf t f) xs in
-    let all = linesIn f (literalChars t xs) (toTheEnd xs) in
+    let cs = literalChars t xs in
+    let all = linesIn f cs (toTheEnd xs) in
+    let count = newlines cs + pick (toTheEnd xs) 1 0 in
     same refl (sym (errors-length t f m))
     (by-test (λ b. pick b (length spans) 0 ≡ length (pick b spans [])) refl refl (f .literal))
-    (sym (by-test (λ b. length (pick b all []) ≡ pick b (newlines (literalChars t xs) + pick (toTheEnd xs) 1 0) 0) (lines-length f _ _) refl (f .literal)))
+    (by-test (λ b. pick b count 0 ≡ length (pick b all [])) (sym (lines-length f cs (toTheEnd xs))) refl (f .literal))
 
 -- a step has one piece at most
 pub piece-few : (x : Step) → pieceCount x ≤ 1

@@ -7,6 +7,7 @@ pub mod Lines
 pub mod LineLaws
 pub mod Lists
 pub mod ListLaws
+pub mod OrderLaws
 pub mod Texts
 pub mod Bench
 pub mod Examples

@@ -1,22 +1,19 @@
 -- Laws of lines: the characters of a part of the text one by one, and lines, newlines and line starts over joined text.
 -- Rests on Lines and on `unicode`'s laws of characters.
 use Prim.Native.Nat.{ℕ, suc, _+_, _≤_, _<_}
-use mathlib.Core.Path.{_≡_, refl, sym, _∙_, ap}
+use mathlib.Core.Path.{_≡_, refl, ap}
 use mathlib.Core.Bool.{Bool, true, false}
 use mathlib.Core.List.{List, [], _∷_, _++_}
 use native.Mathlib.Omega.{arith}
 use borrow.Author.Tests.{lt-ltb, le-ltb, eq-eqb, ne-eqb}
-use lib.ListN.{length, length-append}
+use lib.ListN.{length}
 use Rattle.unicode.specs.Choice.{pick}
-use Rattle.unicode.specs.ChoiceLaws.{pick-elim}
 use Rattle.unicode.specs.Utf8.{peekAt}
 use Rattle.unicode.specs.Chars.{Ch, ch, charsFrom}
-use Rattle.unicode.specs.CharLaws.{Peeked, peeked, ended, first}
-use Rattle.unicode.specs.declared.Seen.{Seen}
+use Rattle.unicode.specs.CharLaws.{peeked, ended, first}
 use Rattle.unicode.specs.declared.Seen.the-variants.{Char, End}
 use Rattle.frame.specs.Places.{spanOf}
 use Rattle.frame.specs.declared.SnippetPlace.{SnippetPlace}
-use Rattle.frame.specs.declared.Span.{Span}
 use Rattle.frame.specs.declared.Frame.{Frame}
 use Rattle.reading.specs.Lines.{before, isNewline, newlines, chStart, lineAfter, endedLines, lineStart}
 

@@ -1,7 +1,7 @@
 -- Laws of the four lists: each step's share of them, and their lengths. Rests on Lists and LineLaws.
 use Prim.Native.Nat.{ℕ, suc, _+_}
-use mathlib.Core.Path.{_≡_, refl, sym, _∙_, ap}
-use mathlib.Core.Bool.{Bool, true, false}
+use mathlib.Core.Path.{_≡_, refl, _∙_}
+use mathlib.Core.Bool.{Bool}
 use mathlib.Core.List.{List, [], _∷_, _++_, append-assoc, append-nil}
 use native.Mathlib.Omega.{arith}
 use lib.ListN.{length, length-append}
@@ -11,7 +11,7 @@ use Rattle.frame.specs.Places.{snippet, spanOf}
 use Rattle.frame.specs.declared.Frame.{Frame}
 use Rattle.scan.specs.declared.Fault.{Fault}
 use Rattle.placeholder.specs.declared.Mode.{Mode}
-use Rattle.reading.specs.Records.{isFront, recordOf}
+use Rattle.reading.specs.Records.{isFront}
 use Rattle.reading.specs.Lines.{charsIn, newlines, endedLines, lineStart}
 use Rattle.reading.specs.LineLaws.{by-test, ended-length}
 use Rattle.reading.specs.Lists.{gather, frontOnly, backOnly, reversed, listed, records, faults, errors, textsOf, literalChars, linesIn}
@@ -69,6 +69,11 @@ errors-length t f m = records-length t f (listed (faults t f m)) ∙ listed-leng
 pub literal-more : (t : List ℕ) (x : Step) (xs : List Step) → literalChars t (x ∷ xs) ≡ gather (charsIn t) (textsOf x) ++ literalChars t xs
 unfolding literalChars
 literal-more t x xs = rw (gather-more, gather-append)
+
+-- no step, no text
+pub literal-none : (t : List ℕ) → literalChars t [] ≡ []
+unfolding literalChars gather
+literal-none t = refl
 
 -- of joined steps
 pub literal-append : (t : List ℕ) (a b : List Step) → literalChars t (a ++ b) ≡ literalChars t a ++ literalChars t b

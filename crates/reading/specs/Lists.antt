@@ -109,7 +109,7 @@ toTheEnd [] = false
 toTheEnd (x ∷ xs) = pick (isEnd x) true (toTheEnd xs)
 
 -- the lines of literal text, the first of which starts after the quote, and the last line at the end of the text; "a stop at a lone `}` adds none".
--- (The last line starts past the newline that ended the one before it, so the two are never equal.)
+-- (The last line starts past the newline that ended the one before it, so the two are never equal: `last-differs` of OrderLaws.)
 unfoldable pub linesIn : Frame → List Ch → Bool → List Span
 linesIn f cs ended =
     endedLines f (snippet (f .quote)) cs ++ pick ended (spanOf (lineStart f (snippet (f .quote)) cs) (f .end) ∷ []) []

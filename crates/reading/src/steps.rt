@@ -38,11 +38,11 @@ fn after_close(text: &[u8], brace: TextPlace, at: TextPlace) -> Step
 {
     let second = scan::consume(text, at, b'}');
     let past = second.at;
-    if second.ate {
-        let end = scan::string_end(text, past);
-        return Step::Literal(TextRange { start: at, end });
+    if !second.ate {
+        return Step::Stop(brace);
     }
-    Step::Stop(brace)
+    let end = scan::string_end(text, past);
+    Step::Literal(TextRange { start: at, end })
 }
 
 // The step where reading stands.

@@ -89,7 +89,7 @@ fn line_count(text: &[u8], step: Step) -> usize
 {
     match step {
         Step::End => 1,
-        Step::Stop(_) => 0,
+        Step::Stop(_) => 0, // "a stop at a lone `}` adds none"
         Step::Literal(view) => newlines_in(text, view),
         Step::Placeholder(read) => {
             let part = read.text;
@@ -106,19 +106,20 @@ fn step_counts(text: &[u8], frame: Frame, step: Step) -> Counts
 {
     let pieces = piece_count(step);
     let errors = crate::faults::fault_count(step);
-    if frame.literal {
+    let places = place_count(step);
+    if !frame.literal {
         return Counts {
             pieces,
             errors,
-            places: place_count(step),
-            lines: line_count(text, step),
+            places: 0,
+            lines: 0,
         };
     }
     Counts {
         pieces,
         errors,
-        places: 0,
-        lines: 0,
+        places,
+        lines: line_count(text, step),
     }
 }
 
