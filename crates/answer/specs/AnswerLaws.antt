@@ -4,18 +4,19 @@ use mathlib.Core.Path.{_≡_, refl, ap, sym, _∙_}
 use mathlib.Core.Bool.{Bool, true, false, true≢false}
 use mathlib.Core.List.{List}
 use native.Mathlib.Omega.{arith}
-use borrow.Author.Tests.{leb-true, ltb-false}
-use lib.Dec.{leb, ltb}
+use borrow.Author.Tests.{eq-eqb, ne-eqb, leb-true, ltb-false}
+use lib.Dec.{eqb, leb, ltb}
 use lib.ListN.{length}
 use Rattle.unicode.specs.Choice.{pick}
 use Rattle.unicode.specs.ChoiceLaws.{pick-elim}
+use Rattle.unicode.specs.Utf8.{validPrefix}
 use Rattle.frame.specs.Frames.{hashesOf}
 use Rattle.frame.specs.FrameLaws.{frame-small}
 use Rattle.frame.specs.Spans.{Small}
 use Rattle.frame.specs.declared.Style.{Style}
 use Rattle.reading.specs.Lists.{pieces, errors, places, lines, countsOf}
 use Rattle.reading.specs.declared.Counts.{Counts}
-use Rattle.answer.specs.Answers.{refusedAs, isStyled, styleOf, isLong, roomFor, frameFor, modeFor, countedAnswer, answerOf, Decided}
+use Rattle.answer.specs.Answers.{refusedAs, isStyled, styleOf, isLong, isBroken, lacksNewline, roomFor, frameFor, modeFor, countedBy, countedAnswer, answerOf, openAnswer, Opened, Decided}
 use Rattle.answer.specs.declared.Hashes.{Hashes}
 use Rattle.answer.specs.declared.Request.{Request}
 use Rattle.answer.specs.declared.Rooms.{Rooms}
@@ -106,3 +107,49 @@ module _ (t s : List ℕ) (q : Request) (r : Rooms) where
   -- and so does a decision of 0
   pub decided-done : {d : Decision} → Decided t s q r d → d .answer .number ≡ 0 → Done t s q r
   decided-done x z = answer-done (ap (λ (a : Answer). a .number) (sym (x .answer)) ∙ z)
+
+  -- without a refusal before the text is read the answer is that of the counts, else it is that refusal
+  pub answer-open : answerOf t s q r ≡ pick (eqb (openAnswer t s q .number) 0) (countedAnswer t s q r) (openAnswer t s q)
+  unfolding answerOf openAnswer pick
+  answer-open = go (ltb 2 (q .mode)) (isStyled (q .style) (q .given)) (isLong t (q .given) s) (isBroken t) (lacksNewline t (q .newline))
+    where
+      a : Answer
+      a = countedAnswer t s q r
+
+      refusals : (mode style long broken newline : Bool) → Answer → Answer
+      refusals mode style long broken newline x =
+          pick mode (refusedAs 1 0)
+          (pick style
+          (pick long (refusedAs 3 0) (pick broken (refusedAs 4 (validPrefix t)) (pick newline (refusedAs 5 0) x)))
+          (refusedAs 2 0))
+
+      go : (mode style long broken newline : Bool) →
+          let k = refusals mode style long broken newline in
+          let z = k (refusedAs 0 0) in
+          k a ≡ pick (eqb (z .number) 0) a z
+      go true style long broken newline = refl
+      go false false long broken newline = refl
+      go false true true broken newline = refl
+      go false true false true newline = refl
+      go false true false false true = refl
+      go false true false false false = refl
+
+-- what is decided before the text is read
+module _ (t s : List ℕ) (q : Request) {d : Decision} (x : Opened t s q d) where
+  number-is : d .answer .number ≡ openAnswer t s q .number
+  number-is = ap (λ (a : Answer). a .number) (x .answer)
+
+  -- a refusal is the answer, whatever the lists have room for
+  pub opened-refused : (d .answer .number ≡ 0 → ⊥) → (r : Rooms) → d .answer ≡ answerOf t s q r
+  unfolding pick
+  opened-refused some r = x .answer ∙ sym (answer-open t s q r ∙ rw (ne-eqb _ _ (λ z. some (number-is ∙ z))))
+
+  module _ (zero : d .answer .number ≡ 0) where
+    -- without one the frame is small
+    pub opened-small : Small t (d .frame)
+    opened-small = rw (x .frame zero) (small-frame t s q (x .short zero))
+
+    -- and the answer is that of the counts by the frame and the mode at hand
+    pub opened-counted : (r : Rooms) → countedBy t (d .frame) (d .mode) r ≡ answerOf t s q r
+    unfolding countedAnswer pick
+    opened-counted r = rw (x .frame zero, x .mode zero) (sym (answer-open t s q r ∙ rw (eq-eqb _ _ (sym number-is ∙ zero))))

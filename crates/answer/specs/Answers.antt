@@ -1,5 +1,5 @@
 -- The answer of the public call: document 01's table of refusals, "checked in this order".
-use Prim.Native.Nat.{ℕ, _-_}
+use Prim.Native.Nat.{ℕ, _-_, _≤_}
 use mathlib.Core.Path.{_≡_}
 use mathlib.Core.Bool.{Bool, true, false}
 use mathlib.Core.List.{List}
@@ -81,27 +81,43 @@ abbrev pub modeFor : Request → Mode
 modeFor q = modeOf (q .mode)
 
 -- a text that is read: done, or a list without room
-unfoldable pub countedAnswer : List ℕ → List ℕ → Request → Rooms → Answer
-countedAnswer t s q r =
-    let c = countsOf t (frameFor t s q) (modeFor q) in
-    answered (roomFor c r) 0 c
+abbrev pub countedBy : List ℕ → Frame → Mode → Rooms → Answer
+countedBy t f m r = let c = countsOf t f m in answered (roomFor c r) 0 c
 
--- THE ANSWER
-unfoldable pub answerOf : List ℕ → List ℕ → Request → Rooms → Answer
-answerOf t s q r =
+unfoldable pub countedAnswer : List ℕ → List ℕ → Request → Rooms → Answer
+countedAnswer t s q r = countedBy t (frameFor t s q) (modeFor q) r
+
+-- refusals 1 to 5, and what is answered where there is none
+abbrev pub unlessRefused : List ℕ → List ℕ → Request → Answer → Answer
+unlessRefused t s q a =
     pick (ltb 2 (q .mode)) (refusedAs 1 0)
     (pick (isStyled (q .style) (q .given))
     (pick (isLong t (q .given) s) (refusedAs 3 0)
     (pick (isBroken t) (refusedAs 4 (validPrefix t))
     (pick (lacksNewline t (q .newline)) (refusedAs 5 0)
-    (countedAnswer t s q r))))
+    a)))
     (refusedAs 2 0))
 
--- what a text that is read is decided by
-pub record Counted (t s : List ℕ) (q : Request) (r : Rooms) (d : Decision) : Type 0 where
-  pub answer : d .answer ≡ countedAnswer t s q r
+-- THE ANSWER
+unfoldable pub answerOf : List ℕ → List ℕ → Request → Rooms → Answer
+answerOf t s q r = unlessRefused t s q (countedAnswer t s q r)
+
+-- the answer before the text is read: such a refusal, or 0
+unfoldable pub openAnswer : List ℕ → List ℕ → Request → Answer
+openAnswer t s q = unlessRefused t s q (answered 0 0 noCounts)
+
+-- what no refusal before the text is read leaves: nothing counted, and the frame and the mode of the call
+pub record Admitted (t s : List ℕ) (q : Request) (d : Decision) : Type 0 where
+  pub answer : d .answer ≡ answered 0 0 noCounts
   pub frame : d .frame ≡ frameFor t s q
   pub mode : d .mode ≡ modeFor q
+
+-- what is decided before the text is read: the answer, and where it is 0 the frame and the mode, and that the text is within the limit
+pub record Opened (t s : List ℕ) (q : Request) (d : Decision) : Type 0 where
+  pub answer : d .answer ≡ openAnswer t s q
+  pub frame : d .answer .number ≡ 0 → d .frame ≡ frameFor t s q
+  pub mode : d .answer .number ≡ 0 → d .mode ≡ modeFor q
+  pub short : d .answer .number ≡ 0 → length t ≤ 65535
 
 -- the decision: the answer, and where it is 0 the frame and the mode that lists are filled by
 pub record Decided (t s : List ℕ) (q : Request) (r : Rooms) (d : Decision) : Type 0 where

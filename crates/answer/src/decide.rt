@@ -10,10 +10,8 @@ use frame::Style;
 use placeholder::Mode;
 use reading::Counts;
 ghost use mathlib.Core.Path.{_≡_};
-ghost use Prim.Native.Nat.{_≤_};
-ghost use lib.ListN.{length};
 ghost use Rattle.frame.specs.Spans.{Small};
-ghost use Rattle.answer.specs.Answers.{noCounts, refusedAs, isStyled, styleOf, isLong, endsInNewline, lacksNewline, modeOf, roomFor, Counted, Decided};
+ghost use Rattle.answer.specs.Answers.{noCounts, refusedAs, isStyled, styleOf, isLong, endsInNewline, lacksNewline, modeOf, roomFor, countedBy, Admitted, Opened, Decided};
 
 fn no_counts() -> Counts
     ensures { λ r. ⌜ r ≡ noCounts ⌝ }
@@ -117,7 +115,7 @@ fn mode_of(number: u8) -> Mode
 }
 
 // 6 to 9 for the first list whose room is too small, else 0.
-fn room_for(counts: Counts, rooms: Rooms) -> u8
+pub fn room_for(counts: Counts, rooms: Rooms) -> u8
     ensures { λ r. ⌜ r ≡ roomFor counts rooms ⌝ }
 {
     if rooms.pieces < counts.pieces {
@@ -135,19 +133,31 @@ fn room_for(counts: Counts, rooms: Rooms) -> u8
     0
 }
 
-// A text that is not refused before it is read: its counts tell whether the lists have room.
-fn counted(text: &[u8], snippet: &[u8], request: Request, rooms: Rooms) -> Decision
-    requires { ⌜ length (now text) ≤ 65535 ⌝ }
-    ensures { λ r. ⌜ Counted (now (text .entry)) (now (snippet .entry)) request rooms r ⌝ }
+// A text that is read: its counts tell whether the lists have room.
+fn counted(text: &[u8], frame: Frame, mode: Mode, rooms: Rooms) -> Answer
+    requires { ⌜ Small (now text) frame ⌝ }
+    ensures { λ r. ⌜ r ≡ countedBy (now (text .entry)) frame mode rooms ⌝ }
+{
+    let counts = reading::tally::tally(text, frame, mode);
+    Answer {
+        number: room_for(counts, rooms),
+        place: 0,
+        counts,
+    }
+}
+
+// A call without a refusal before its text is read.
+fn admitted(text: &[u8], snippet: &[u8], request: Request) -> Decision
+    ensures { λ r. ⌜ Admitted (now (text .entry)) (now (snippet .entry)) request r ⌝ }
 {
     let style = request.style;
     let framed = style_of(style);
     let frame = frame::frame_of(text, framed, request.given, snippet, request.newline);
     let mode = mode_of(request.mode);
-    let counts = reading::tally::tally(text, frame, mode);
+    let counts = no_counts();
     Decision {
         answer: Answer {
-            number: room_for(counts, rooms),
+            number: 0,
             place: 0,
             counts,
         },
@@ -156,9 +166,9 @@ fn counted(text: &[u8], snippet: &[u8], request: Request, rooms: Rooms) -> Decis
     }
 }
 
-// The answer to a call, the checks in document 01's order.
-pub fn decide(text: &[u8], snippet: &[u8], request: Request, rooms: Rooms) -> Decision
-    ensures { λ r. ⌜ Decided (now (text .entry)) (now (snippet .entry)) request rooms r ⌝ }
+// The refusals that need no reading, the checks in document 01's order; 0 where there is none, with the frame and the mode.
+pub fn opened(text: &[u8], snippet: &[u8], request: Request) -> Decision
+    ensures { λ r. ⌜ Opened (now (text .entry)) (now (snippet .entry)) request r ⌝ }
 {
     let style = request.style;
     if 2 < request.mode {
@@ -177,5 +187,23 @@ pub fn decide(text: &[u8], snippet: &[u8], request: Request, rooms: Rooms) -> De
     if lacks_newline(text, request.newline) {
         return refused(5, 0);
     }
-    counted(text, snippet, request, rooms)
+    admitted(text, snippet, request)
+}
+
+// The answer to a call: a refusal before the text is read, or what its counts say.
+pub fn decide(text: &[u8], snippet: &[u8], request: Request, rooms: Rooms) -> Decision
+    ensures { λ r. ⌜ Decided (now (text .entry)) (now (snippet .entry)) request rooms r ⌝ }
+{
+    let first = opened(text, snippet, request);
+    let answer = first.answer;
+    let frame = first.frame;
+    let mode = first.mode;
+    if answer.number != 0 {
+        return first;
+    }
+    Decision {
+        answer: counted(text, frame, mode, rooms),
+        frame,
+        mode,
+    }
 }

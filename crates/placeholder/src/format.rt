@@ -108,7 +108,7 @@ fn read_fill(text: &[u8], frame: Frame, at: TextPlace) -> FillRead
     }
 }
 
-fn read_align(text: &[u8], at: TextPlace) -> AlignRead
+pub fn read_align(text: &[u8], at: TextPlace) -> AlignRead
     ensures { λ r. ⌜ r ≡ alignRead (now (text .entry)) at ⌝ }
 {
     let left = scan::consume(text, at, b'<');
@@ -141,7 +141,7 @@ fn read_align(text: &[u8], at: TextPlace) -> AlignRead
     }
 }
 
-fn read_sign(text: &[u8], at: TextPlace) -> SignRead
+pub fn read_sign(text: &[u8], at: TextPlace) -> SignRead
     ensures { λ r. ⌜ r ≡ signRead (now (text .entry)) at ⌝ }
 {
     let plus = scan::consume(text, at, b'+');

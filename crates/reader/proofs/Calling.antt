@@ -1,28 +1,32 @@
 -- What a decision says of the lists: where it is 0 each has room for its records, and a call is what its lists then hold. Facts about lists alone.
 use mathlib.Core.Path.{_≡_, refl, sym, ap, subst, _∙_}
-use mathlib.Core.Bool.{Bool, true, false}
+use mathlib.Core.Bool.{Bool, true, false, not}
 use mathlib.Core.List.{List}
 use Prim.Native.Nat.{ℕ, _*_, _/_, _≤_}
 use native.Mathlib.Omega.{arith}
 use lib.Dec.{eqb}
 use lib.ListN.{length, replicate}
-use borrow.Author.Tests.{eqb-true}
+use borrow.Author.Tests.{eqb-true, not-false}
 use Rattle.unicode.specs.Choice.{pick}
+use Rattle.unicode.specs.ChoiceLaws.{pick-elim}
 use Rattle.frame.specs.Spans.{Small}
 use Rattle.frame.specs.declared.Frame.{Frame}
 use Rattle.placeholder.specs.declared.Mode.{Mode}
-use Rattle.reading.specs.Lists.{pieces, errors, places, lines}
+use Rattle.reading.specs.Lists.{pieces, errors, places, lines, countsOf}
+use Rattle.reading.specs.declared.Counts.{Counts}
 use Rattle.reading.specs.declared.Piece.{Piece}
 use Rattle.reading.specs.declared.ErrorRecord.{ErrorRecord}
-use Rattle.answer.specs.Answers.{frameFor, modeFor, answerOf, Decided}
+use Rattle.answer.specs.Answers.{frameFor, modeFor, countedAnswer, answerOf, Decided}
 use Rattle.answer.specs.AnswerLaws.{Done, decided-done}
 use Rattle.answer.specs.Exits.{over, pairs, atExit}
 use Rattle.answer.specs.Turns.{noPiece}
 use Rattle.answer.specs.declared.Request.{Request}
 use Rattle.answer.specs.declared.Rooms.{Rooms}
+use Rattle.answer.specs.declared.Answer.{Answer}
 use Rattle.answer.specs.declared.Decision.{Decision}
 use Rattle.reader.specs.declared.call.Reading.{Reading}
 use Rattle.reader.specs.Calls.{roomsOf, Read, noError, noPieces, noErrors, noSpans, rooms256, Read256}
+use Rattle.reader.proofs.Filling.{over-empty}
 
 -- a list at exit, where the number is 0 and where it is not
 at-done : {A : Type 0} (n : ℕ) (new old : List A) → eqb n 0 ≡ true → atExit n new old ≡ over new old
@@ -32,6 +36,18 @@ at-done n new old z = ap (λ (b : Bool). pick b (over new old) old) z
 at-refused : {A : Type 0} (n : ℕ) (new old : List A) → eqb n 0 ≡ false → atExit n new old ≡ old
 unfolding atExit pick
 at-refused n new old z = ap (λ (b : Bool). pick b (over new old) old) z
+
+-- an answer of 0 has the counts of the lists
+answer-counts : (t s : List ℕ) (q : Request) (r : Rooms) → answerOf t s q r .number ≡ 0 → answerOf t s q r .counts ≡ countsOf t (frameFor t s q) (modeFor q)
+unfolding answerOf countedAnswer
+answer-counts t s q r =
+    let P : Answer → Type 0 = λ a. a .number ≡ 0 → a .counts ≡ countsOf t (frameFor t s q) (modeFor q) in
+    pick-elim P _ (λ _ e. absurd (omega arith))
+    (λ _. pick-elim P _
+    (λ _. pick-elim P _ (λ _ e. absurd (omega arith))
+    (λ _. pick-elim P _ (λ _ e. absurd (omega arith))
+    (λ _. pick-elim P _ (λ _ e. absurd (omega arith)) (λ _ _. refl))))
+    (λ _ e. absurd (omega arith)))
 
 module _ (ps : List Piece) (es : List ErrorRecord) (ls ns : List ℕ) where
   -- how many records the lists have room for, as the call counts them
@@ -87,6 +103,15 @@ module _ (ps : List Piece) (es : List ErrorRecord) (ls ns : List ℕ) where
         where
           done : Done t s q rooms
           done = decided-done t s q rooms decided is-zero
+
+      -- the list of errors where their count is 0: as it was, which is no record over the first
+      pub clean : not (eqb (d .answer .counts .errors) 0) ≡ false → es ≡ over (errors t (d .frame) (d .mode)) es
+      unfolding countsOf
+      clean none = at-decision (λ f m. es ≡ over (errors t f m) es) (over-empty (errors t (frameFor t s q) (modeFor q)) es (sym counted ∙ eqb-true (d .answer .counts .errors) 0 (not-false (eqb (d .answer .counts .errors) 0) none)))
+        where
+          counted : d .answer .counts .errors ≡ length (errors t (frameFor t s q) (modeFor q))
+          counted = ap (λ (a : Answer). a .counts .errors) (decided .answer) ∙
+              ap (λ (c : Counts). c .errors) (answer-counts t s q rooms (ap (λ (a : Answer). a .number) (sym (decided .answer)) ∙ is-zero))
 
       -- the lists where the call is done: the records over the first
       pub finished : (ps′ : List Piece) (es′ : List ErrorRecord) (ls′ ns′ : List ℕ) → ps′ ≡ over (pieces t (d .frame) (d .mode)) ps → es′ ≡ over (errors t (d .frame) (d .mode)) es

@@ -34,6 +34,11 @@ module _ {A : Type 0} where
   unfolding over
   over-none ys = refl
 
+  -- records that number 0 leave a list as it was
+  pub over-empty : (es ys : List A) → length es ≡ 0 → ys ≡ over es ys
+  over-empty [] ys e = sym (over-none ys)
+  over-empty (x ∷ es) ys e = absurd (omega (arith, e))
+
   module _ (es ys : List A) where
     pub over-length : length es ≤ length ys → length (over es ys) ≡ length ys
     unfolding over

@@ -21,6 +21,7 @@ ghost use Rattle.answer.specs.Turns.{noPiece};
 ghost use Rattle.reader.specs.Calls.{Read, noError, Read256};
 
 // Reads a text into four lists; a span takes two numbers of its list. A refusal changes no list.
+// A text whose count of errors is 0 is not read for them.
 pub fn read(
     text: &[u8],
     snippet: &[u8],
@@ -44,7 +45,9 @@ pub fn read(
         let frame = decision.frame;
         let mode = decision.mode;
         fill_pieces(text, frame, mode, pieces);
-        fill_errors(text, frame, mode, errors);
+        if answer.counts.errors != 0 {
+            fill_errors(text, frame, mode, errors);
+        }
         fill_places(text, frame, mode, places);
         fill_lines(text, frame, mode, lines);
     }

@@ -8,6 +8,8 @@ pub mod LineLaws
 pub mod Lists
 pub mod ListLaws
 pub mod OrderLaws
+pub mod PaidLaws
+pub mod RoomLaws
 pub mod Texts
 pub mod Bench
 pub mod Examples

@@ -1,7 +1,7 @@
 -- A character at a place of the text, and what is passed over it: one ASCII character, any character, whitespace, literal text.
 -- Rests on `unicode`'s decoding, runs and White_Space.
 use Prim.Native.Nat.{ℕ, _+_}
-use mathlib.Core.Bool.{Bool, true, false}
+use mathlib.Core.Bool.{Bool, true, false, not}
 use mathlib.Core.List.{List}
 use lib.Dec.{eqb}
 use Rattle.unicode.specs.Choice.{pick}
@@ -43,6 +43,10 @@ spacesPast t at = place (runEnd isSpace t (at .0))
 -- a character that is no brace
 unfoldable pub isPlain : ℕ → Bool
 isPlain c = pick (eqb c 0x7B) false (pick (eqb c 0x7D) false true)
+
+-- a brace
+abbrev pub isBrace : ℕ → Bool
+isBrace c = not (isPlain c)
 
 -- "Each run goes to the next brace or the end."
 unfoldable pub textEnd : List ℕ → TextPlace → TextPlace

@@ -6,7 +6,7 @@ use mathlib.Core.Bool.{Bool, true, false, true≢false}
 use mathlib.Core.List.{List, [], _∷_}
 use native.Mathlib.Nat.{le-trans}
 use native.Mathlib.Omega.{arith}
-use borrow.Author.Tests.{eqb-true, eq-eqb}
+use borrow.Author.Tests.{eqb-true, eq-eqb, ne-eqb}
 use lib.Dec.{eqb}
 use lib.ListN.{length, getD}
 use Rattle.unicode.specs.Choice.{pick}
@@ -54,6 +54,11 @@ module _ (f : ℕ → Bool) (t : List ℕ) (i : ℕ) where
   pub run-in : i ≤ length t → runEnd f t i ≤ length t
   unfolding runEnd
   run-in h = omega (arith, taken-bytes f (charsFrom t i), spelled t (charsFrom t i) i refl h)
+
+-- a character that is not ASCII is no brace
+pub plain-high : (c : ℕ) → 0x80 ≤ c → isPlain c ≡ true
+unfolding isPlain pick
+plain-high c h = simp (ne-eqb c 0x7B (omega arith), ne-eqb c 0x7D (omega arith))
 
 -- a run passes a character that passes the test
 pub run-some : (f : ℕ → Bool) (t : List ℕ) (i : ℕ) {c w : ℕ} → peekAt t i ≡ Char c w → f c ≡ true → i < runEnd f t i

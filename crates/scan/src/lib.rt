@@ -6,10 +6,13 @@ use frame::TextPlace;
 use frame::TextRange;
 use unicode::Seen;
 ghost use mathlib.Core.Path.{_≡_};
-ghost use Prim.Native.Nat.{ℕ, _+_, _*_, _<_};
+ghost use Prim.Native.Nat.{ℕ, _+_, _*_, _≤_, _<_};
+ghost use lib.ListN.{length};
 ghost use Rattle.frame.specs.Spans.{Small};
 ghost use Rattle.unicode.specs.Choice.{either};
-ghost use Rattle.scan.specs.Characters.{isAt, pastAt, consumed, spacesPast, isPlain, textEnd};
+ghost use Rattle.unicode.specs.Chars.{runEnd};
+ghost use Rattle.unicode.specs.Blocks.{one, howMany};
+ghost use Rattle.scan.specs.Characters.{isAt, pastAt, consumed, spacesPast, isPlain, isBrace, textEnd};
 ghost use Rattle.scan.specs.Ends.{endOf, spanAcross};
 ghost use Rattle.scan.specs.Words.{isDigit, wordEnd, wordRead, noted, numberFrom, numberRead};
 ghost use Rattle.scan.specs.Counts.{isEmpty, numberCount, nameCount, countRead};
@@ -139,34 +142,75 @@ pub fn ws(text: &[u8], at: TextPlace) -> TextPlace
     TextPlace(unicode::space_end(text, i))
 }
 
-fn is_plain(code: u32) -> bool
-    ensures { λ r. ⌜ r ≡ isPlain code ⌝ }
-{
-    if code == 0x7B {
-        return false;
-    }
-    code != 0x7D
-}
-
-// The end of the literal text at a place: the next brace, or the end of the text.
+// The end of the literal text at a place: the next brace, or the end of the text. No byte of a longer character is a brace, so
+// bytes tell.
 pub fn string_end(text: &[u8], at: TextPlace) -> TextPlace
     ensures { λ r. ⌜ r ≡ textEnd (now (text .entry)) at ⌝ }
 {
-    let mut i = at.0;
-    loop {
-        match unicode::peek(text, i) {
-            Seen::Char { code, width } => {
-                if is_plain(code) {
-                    i += width;
-                } else {
-                    return TextPlace(i);
-                }
-            }
-            Seen::End => {
-                return TextPlace(i);
-            }
-        }
+    let i = at.0;
+    // From here on `i` is within the text, so no sum of a block's place wraps.
+    if text.len() <= i {
+        return at;
     }
+    let from = plain_blocks(text, i);
+    TextPlace(brace_place(text, from))
+}
+
+// The place after the blocks of sixteen bytes without a brace at `at`. A block is one test.
+fn plain_blocks(text: &[u8], at: usize) -> usize
+    requires { ⌜ at ≤ length (now text) ⌝ }
+    ensures { λ r. ⌜ runEnd isPlain (now (text .entry)) r ≡ runEnd isPlain (now (text .entry)) at ⌝ }
+{
+    let mut i = at;
+    while i + 16 <= text.len() {
+        if braces(text, i) + braces(text, i + 8) != 0 {
+            return i;
+        }
+        i += 16;
+    }
+    i
+}
+
+// The place of the first brace from `at` on, or the end.
+fn brace_place(text: &[u8], at: usize) -> usize
+    ensures { λ r. ⌜ r ≡ runEnd isPlain (now (text .entry)) at ⌝ }
+{
+    let mut i = at;
+    while i < text.len() {
+        if brace(text[i]) != 0 {
+            return i;
+        }
+        i += 1;
+    }
+    i
+}
+
+// How many of the eight bytes at `at` are braces.
+fn braces(text: &[u8], at: usize) -> u8
+    requires { ⌜ at + 8 ≤ length (now text) ⌝ }
+    ensures { λ r. ⌜ (r ≡ howMany isBrace (now (text .entry)) at 8) × (r ≤ 8) ⌝ }
+{
+    brace(text[at])
+        + brace(text[at + 1])
+        + brace(text[at + 2])
+        + brace(text[at + 3])
+        + brace(text[at + 4])
+        + brace(text[at + 5])
+        + brace(text[at + 6])
+        + brace(text[at + 7])
+}
+
+// 1 for a brace, else 0: a number, so that eight of them are summed at once.
+fn brace(b: u8) -> u8
+    ensures { λ r. ⌜ (r ≡ one (isBrace b)) × (r ≤ 1) ⌝ }
+{
+    if b == 0x7B {
+        return 1;
+    }
+    if b == 0x7D {
+        return 1;
+    }
+    0
 }
 
 // The snippet place where the character at a text place ends.
@@ -195,7 +239,7 @@ pub fn span_across(text: &[u8], frame: Frame, first: TextPlace, last: TextPlace)
 }
 
 // Where the word at a place ends.
-fn word_end(text: &[u8], at: TextPlace) -> TextPlace
+pub fn word_end(text: &[u8], at: TextPlace) -> TextPlace
     ensures { λ r. ⌜ r ≡ wordEnd (now (text .entry)) at ⌝ }
 {
     let i = at.0;

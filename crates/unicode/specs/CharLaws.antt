@@ -1,18 +1,20 @@
 -- Laws of characters, places and runs: what stands at a place is the list of characters from there, and the place after some
 -- characters is their bytes further on. Rests on Chars and DecodeLaws.
-use Prim.Native.Nat.{ℕ, zero, suc, pred, _+_, _≤_, _<_}
+use Prim.Native.Nat.{ℕ, zero, suc, pred, _+_, _-_, _≤_, _<_}
 use mathlib.Core.Path.{_≡_, refl, sym, _∙_, ap}
-use mathlib.Core.Bool.{Bool, true, false}
+use mathlib.Core.Bool.{Bool, true, false, true≢false}
 use mathlib.Core.List.{List, [], _∷_, _++_}
 use native.Mathlib.Nat.{add-zero, add-assoc, suc-add, add-suc}
 use native.Mathlib.Omega.{arith}
-use lib.Dec.{eqb}
+use native.Mathlib.Numerals.{add-one}
+use borrow.Author.Tests.{ltb-true, ltb-false}
+use lib.Dec.{ltb, eqb}
 use lib.ListN.{length, getD, drop, length-drop, drop-of-length-le}
 use lib.Seq.{drop-drop}
 use Rattle.unicode.specs.Choice.{pick}
 use Rattle.unicode.specs.ChoiceLaws.{pick-elim}
 use Rattle.unicode.specs.Utf8.{sequenceAt, charOf, decode, peekAt}
-use Rattle.unicode.specs.DecodeLaws.{decode-fitting, decode-sequence, sequence-bytes, ascii-sequence, char-byte}
+use Rattle.unicode.specs.DecodeLaws.{Wide, decode-fitting, decode-sequence, sequence-bytes, ascii-sequence, char-byte, char-wide}
 use Rattle.unicode.specs.Chars.{Ch, ch, leads, charsAt, charsFrom, takeWhile, dropWhile, bytes, runEnd}
 use Rattle.unicode.specs.declared.Seen.{Seen}
 use Rattle.unicode.specs.declared.Seen.the-variants.{Char, End}
@@ -96,6 +98,24 @@ char-ascii t i {c} {w} e l =
     let h = seen-in t i e in
     char-byte _ _ _ _ (ap charOf (sym (sequence-bytes t i h)) ∙ sym (decode-sequence t i h) ∙ e) l
 
+-- the later bytes of a character are 0x80 or above
+pub later : (t : List ℕ) (i : ℕ) {c w : ℕ} → peekAt t i ≡ Char c w → (j : ℕ) → i < j → j < i + w → 0x80 ≤ getD t j 0
+unfolding peekAt
+later t i {c} {w} e j l u = go (j - i) (omega arith)
+  where
+    s : i < length t
+    s = seen-in t i e
+
+    h : Wide (getD t (i + 1) 0) (getD t (i + 2) 0) (getD t (i + 3) 0) w
+    h = char-wide _ _ _ _ (ap charOf (sym (sequence-bytes t i s)) ∙ sym (decode-sequence t i s) ∙ e)
+
+    go : (k : ℕ) → j ≡ i + k → 0x80 ≤ getD t j 0
+    go zero q = absurd (omega arith)
+    go (suc zero) q = rw q (h .has2 (omega arith))
+    go (suc (suc zero)) q = rw q (h .has3 (omega arith))
+    go (suc (suc (suc zero))) q = rw q (h .has4 (omega arith))
+    go (suc (suc (suc (suc k)))) q = absurd (omega (arith, h .most))
+
 -- what the first character of a list says of the text
 pub record First (t : List ℕ) (i : ℕ) (c : Ch) (cs : List Ch) : Type 0 where
   pub seen : peekAt t i ≡ Char (c .code) (c .width)
@@ -157,6 +177,57 @@ module _ (f : ℕ → Bool) {t : List ℕ} {i : ℕ} where
 pub run-end : (f : ℕ → Bool) (t : List ℕ) (i : ℕ) → peekAt t i ≡ End → runEnd f t i ≡ i
 unfolding runEnd takeWhile bytes
 run-end f t i e = simp (ended t i e, add-zero)
+
+-- what is the same one place on, for each of n places, is the same n places on
+pub places-on : (g : ℕ → ℕ) (i n : ℕ) → ((k : ℕ) → k < n → g (i + k + 1) ≡ g (i + k)) → g (i + n) ≡ g i
+places-on g i zero s = ap g (add-zero i)
+places-on g i (suc n) s = rw add-suc (rw add-one at (s n (omega arith)) ∙ places-on g i n (λ k h. s k (omega arith)))
+
+module _ (f : ℕ → Bool) (t : List ℕ) (i : ℕ) (h : i < length t) where
+  -- a run goes on past an ASCII character that passes the test
+  pub ascii-more : getD t i 0 < 0x80 → f (getD t i 0) ≡ true → runEnd f t (i + 1) ≡ runEnd f t i
+  ascii-more l y = run-more f (peeked t i (ascii-char t i h l)) y
+
+  -- a run stops before an ASCII character that does not
+  pub ascii-stop : getD t i 0 < 0x80 → f (getD t i 0) ≡ false → runEnd f t i ≡ i
+  ascii-stop l n = run-stop f (peeked t i (ascii-char t i h l)) n
+
+module _ (f : ℕ → Bool) (g : (c : ℕ) → 0x80 ≤ c → f c ≡ true) (t : List ℕ) where
+  -- where the test holds of every character that is not ASCII, a run passes each byte that is not, wherever in a character it stands
+  high-more : (n i : ℕ) → length t ≤ i + n → i < length t → 0x80 ≤ getD t i 0 → runEnd f t (i + 1) ≡ runEnd f t i
+  high-more zero i m h b = absurd (omega arith)
+  high-more (suc n) i m h b = go (λ j. high-more n j) (peekAt t i) refl
+    where
+      go : ((j : ℕ) → length t ≤ j + n → j < length t → 0x80 ≤ getD t j 0 → runEnd f t (j + 1) ≡ runEnd f t j) → (s : Seen) → peekAt t i ≡ s → runEnd f t (i + 1) ≡ runEnd f t i
+      go r End d = absurd (omega (arith, end-past t i d))
+      go r (Char c w) d =
+          let p = peeked t i d in
+          let q : i + 1 + (w - 1) ≡ i + w = omega (arith, p .some) in
+          sym (places-on (runEnd f t) (i + 1) (w - 1) (λ k l. r (i + 1 + k) (omega arith) (omega (arith, p .room)) (later t i d (i + 1 + k) (omega arith) (omega arith)))) ∙
+          rw q (run-more f p (g c (high c d)))
+        where
+          high : (c : ℕ) {w : ℕ} → peekAt t i ≡ Char c w → 0x80 ≤ c
+          high c d = by (ltb c 0x80) refl
+            where
+              by : (x : Bool) → ltb c 0x80 ≡ x → 0x80 ≤ c
+              by true e = absurd (omega (arith, char-ascii t i d (ltb-true c 0x80 e) .0, ltb-true c 0x80 e))
+              by false e = ltb-false c 0x80 e
+
+  -- BYTES TELL: such a run passes each byte that passes the test
+  pub byte-more : (i : ℕ) → i < length t → f (getD t i 0) ≡ true → runEnd f t (i + 1) ≡ runEnd f t i
+  byte-more i h y = go (ltb (getD t i 0) 0x80) refl
+    where
+      go : (x : Bool) → ltb (getD t i 0) 0x80 ≡ x → runEnd f t (i + 1) ≡ runEnd f t i
+      go true e = ascii-more f t i h (ltb-true (getD t i 0) 0x80 e) y
+      go false e = high-more (length t) i (omega arith) h (ltb-false (getD t i 0) 0x80 e)
+
+  -- and stops at each that does not
+  pub byte-stop : (i : ℕ) → i < length t → f (getD t i 0) ≡ false → runEnd f t i ≡ i
+  byte-stop i h n = go (ltb (getD t i 0) 0x80) refl
+    where
+      go : (x : Bool) → ltb (getD t i 0) 0x80 ≡ x → runEnd f t i ≡ i
+      go true e = ascii-stop f t i h (ltb-true (getD t i 0) 0x80 e) n
+      go false e = absurd (true≢false (sym (g (getD t i 0) (ltb-false (getD t i 0) 0x80 e)) ∙ n))
 
 -- a run and what it leaves are the whole list
 pub run-split : (f : ℕ → Bool) (cs : List Ch) → takeWhile f cs ++ dropWhile f cs ≡ cs

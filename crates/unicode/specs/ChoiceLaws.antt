@@ -31,6 +31,11 @@ pub either-true : (a : Bool) → either a true ≡ true
 either-true true = refl
 either-true false = refl
 
+-- a second test that fails says nothing
+pub either-false : (a : Bool) → either a false ≡ a
+either-false true = refl
+either-false false = refl
+
 -- a number within a range is between its ends
 pub within-low : {x : ℕ} (lo hi : ℕ) → within x lo hi ≡ true → lo ≤ x
 unfolding within

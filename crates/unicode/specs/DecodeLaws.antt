@@ -47,11 +47,11 @@ unfolding sequenceOf pick
 ascii-sequence t i h l = sequence-bytes t i h ∙ simp (lt-ltb (getD t i 0) 0x80 l)
 
 -- what the width of a sequence says of its later bytes
-record Wide (c d e w : ℕ) : Type 0 where
-  most : w ≤ 4
-  has2 : 2 ≤ w → 0x80 ≤ c
-  has3 : 3 ≤ w → 0x80 ≤ d
-  has4 : 4 ≤ w → 0x80 ≤ e
+pub record Wide (c d e w : ℕ) : Type 0 where
+  pub most : w ≤ 4
+  pub has2 : 2 ≤ w → 0x80 ≤ c
+  pub has3 : 3 ≤ w → 0x80 ≤ d
+  pub has4 : 4 ≤ w → 0x80 ≤ e
 
 -- a sequence is as its width says
 wide : (b c d e : ℕ) → Wide c d e (sequenceOf b c d e .width)
@@ -157,3 +157,12 @@ char-byte b c d e {k} {w} =
     let r : s .width ≡ w = cc in
     let f = sequence-ascii b c d e (eqb-false (s .width) 0 t) (omega arith) in
     (ap (λ (x : Sequence). x .code) (sym f) ∙ p, sym r ∙ ap (λ (x : Sequence). x .width) f))
+
+-- a character is as its width says
+pub char-wide : (b c d e : ℕ) {k w : ℕ} → charOf (sequenceOf b c d e) ≡ Char k w → Wide c d e w
+unfolding charOf
+char-wide b c d e {k} {w} =
+    let s = sequenceOf b c d e in
+    pick-elim (λ (n : Seen). n ≡ Char k w → Wide c d e w) (eqb (s .width) 0)
+    (λ t q. let r : 1 ≡ w = cc in omega arith)
+    (λ t q. let r : s .width ≡ w = cc in subst (Wide c d e) r (wide b c d e))

@@ -9,10 +9,15 @@ pub mod CharLaws
 pub mod Utf8Laws
 pub mod Encode
 pub mod EncodeLaws
+pub mod Blocks
+pub mod BlockLaws
 pub mod Table
 pub mod TableLaws
 pub mod Space
 pub mod Start
 pub mod Continue
+pub mod Common
+pub mod Ascii
 pub mod Questions
 pub mod QuestionLaws
+pub mod AsciiLaws

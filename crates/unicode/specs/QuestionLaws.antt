@@ -13,6 +13,7 @@ use Rattle.unicode.specs.TableLaws.{first-holds, inside-holds, apart-hol
 use Rattle.unicode.specs.Space.{space}
 use Rattle.unicode.specs.Start.{start}
 use Rattle.unicode.specs.Continue.{continue}
+use Rattle.unicode.specs.Common.{common}
 use Rattle.unicode.specs.Questions.{isSpace, isStart, isContinue}
 
 -- the tables are ascending and disjoint
@@ -28,6 +29,10 @@ pub continue-ascending : T (ascending 0 continue)
 unfolding ascending continue
 continue-ascending = tt
 
+pub common-ascending : T (ascending 0 common)
+unfolding ascending common
+common-ascending = tt
+
 -- the tables compared
 start-in-continue : T (inside start continue)
 unfolding inside held pick start continue
@@ -37,10 +42,19 @@ continue-off-space : T (apart continue space)
 unfolding apart clear pick space continue
 continue-off-space = tt
 
+common-in-start : T (inside common start)
+unfolding inside held pick common start
+common-in-start = tt
+
 -- every start is a continuation
 pub start-continues : (c : ℕ) → isStart c ≡ true → isContinue c ≡ true
 unfolding isStart isContinue
 start-continues c m = inside-holds start continue start-in-continue c m
+
+-- every character of the common scripts' ranges is a start
+pub common-starts : (c : ℕ) → member common c ≡ true → isStart c ≡ true
+unfolding isStart
+common-starts c m = inside-holds common start common-in-start c m
 
 -- no continuation is whitespace
 pub continue-no-space : (c : ℕ) → isContinue c ≡ true → isSpace c ≡ false

@@ -1,18 +1,24 @@
 // Characters of a text of bytes: UTF-8 at any place of any bytes, the longest valid prefix, and the questions whether a
 // character is whitespace, starts an identifier or continues one, with the runs of such characters.
 ghost use mathlib.Core.Path.{_≡_};
-ghost use Prim.Native.Nat.{_≤_};
+ghost use mathlib.Core.Bool.{false};
+ghost use Prim.Native.Nat.{_+_, _≤_, _<_};
 ghost use lib.Dec.{T};
-ghost use lib.ListN.{getD, drop};
+ghost use lib.ListN.{length, getD, drop};
 ghost use Rattle.unicode.specs.Choice.{within};
 ghost use Rattle.unicode.specs.Utf8.{low, high, code2, code3, code4, sequenceOf, sequenceAt, charOf, peekAt, validPrefix};
+ghost use Rattle.unicode.specs.Utf8Laws.{validEnd};
 ghost use Rattle.unicode.specs.Chars.{runEnd};
+ghost use Rattle.unicode.specs.Blocks.{one, howMany, isHigh};
 ghost use Rattle.unicode.specs.Table.{member, ascending};
-ghost use Rattle.unicode.specs.Questions.{isSpace, isStart, isContinue};
+ghost use Rattle.unicode.specs.Ascii.{asciiSpace, asciiStart, asciiContinue};
+ghost use Rattle.unicode.specs.Questions.{isSpace, isStart, isContinue, asked};
+use crate::common::COMMON;
 use crate::tables::CONTINUE;
 use crate::tables::SPACE;
 use crate::tables::START;
 
+mod common;
 mod tables;
 
 // What stands at a place of a text: a character with its width in bytes, or nothing, past the end.
@@ -50,6 +56,7 @@ pub fn valid_prefix(text: &[u8]) -> usize
 {
     let mut i = 0;
     loop {
+        i = ascii_end(text, i);
         let s = sequence_at(text, i);
         let w = s.width;
         if w == 0 {
@@ -59,52 +66,205 @@ pub fn valid_prefix(text: &[u8]) -> usize
     }
 }
 
-// Whether a character is White_Space.
+// The place after the blocks of sixteen ASCII bytes at `at`. A block is one test, so a text of plain letters is passed at its speed.
+fn ascii_end(text: &[u8], at: usize) -> usize
+    requires { ⌜ at ≤ length (now text) ⌝ }
+    ensures { λ r. ⌜ (at ≤ r) × (r ≤ length (now (text .entry))) × (validEnd (now (text .entry)) r ≡ validEnd (now (text .entry)) at) ⌝ }
+{
+    let mut i = at;
+    while i + 16 <= text.len() {
+        if highs(text, i) + highs(text, i + 8) != 0 {
+            return i;
+        }
+        i += 16;
+    }
+    i
+}
+
+// How many of the eight bytes at `at` are 80 (hex) or above.
+fn highs(text: &[u8], at: usize) -> u8
+    requires { ⌜ at + 8 ≤ length (now text) ⌝ }
+    ensures { λ r. ⌜ (r ≡ howMany isHigh (now (text .entry)) at 8) × (r ≤ 8) ⌝ }
+{
+    high(text[at])
+        + high(text[at + 1])
+        + high(text[at + 2])
+        + high(text[at + 3])
+        + high(text[at + 4])
+        + high(text[at + 5])
+        + high(text[at + 6])
+        + high(text[at + 7])
+}
+
+// 1 for a byte that is 80 (hex) or above, else 0: no test, so that eight of them are computed at once.
+fn high(b: u8) -> u8
+    ensures { λ r. ⌜ (r ≡ one (isHigh b)) × (r ≤ 1) ⌝ }
+{
+    b / 128
+}
+
+// Whether a character is White_Space. ASCII is answered without the table.
 pub fn is_space(c: u32) -> bool
     ensures { λ r. ⌜ r ≡ isSpace c ⌝ }
 {
+    if c < 0x80 {
+        return ascii_space(c as u8);
+    }
     in_table(&SPACE, c)
 }
 
-// Whether a character can start an identifier: `_` or XID_Start.
+// Whether a character can start an identifier: `_` or XID_Start. ASCII and the common scripts are answered without the long table.
 pub fn is_start(c: u32) -> bool
     ensures { λ r. ⌜ r ≡ isStart c ⌝ }
 {
-    in_table(&START, c)
+    if c < 0x80 {
+        return ascii_start(c as u8);
+    }
+    if in_table(&COMMON, c) {
+        return true;
+    }
+    in_start(c)
 }
 
 // Whether a character can continue an identifier: XID_Continue.
 pub fn is_continue(c: u32) -> bool
     ensures { λ r. ⌜ r ≡ isContinue c ⌝ }
 {
+    if c < 0x80 {
+        return ascii_continue(c as u8);
+    }
+    if in_table(&COMMON, c) {
+        return true;
+    }
+    in_continue(c)
+}
+
+// Whether an ASCII byte is whitespace: a space, or 9 to 13.
+fn ascii_space(b: u8) -> bool
+    ensures { λ r. ⌜ r ≡ asciiSpace b ⌝ }
+{
+    if b == 0x20 {
+        return true;
+    }
+    if b < 9 {
+        return false;
+    }
+    b <= 13
+}
+
+// Whether a byte is an ASCII letter or `_`. Small letters come first: they are the most.
+pub fn ascii_start(b: u8) -> bool
+    ensures { λ r. ⌜ r ≡ asciiStart b ⌝ }
+{
+    if 0x61 <= b {
+        return b <= 0x7A;
+    }
+    if b < 0x41 {
+        return false;
+    }
+    if b <= 0x5A {
+        return true;
+    }
+    b == 0x5F
+}
+
+// Whether a byte is an ASCII letter, a digit or `_`.
+fn ascii_continue(b: u8) -> bool
+    ensures { λ r. ⌜ r ≡ asciiContinue b ⌝ }
+{
+    if 0x61 <= b {
+        return b <= 0x7A;
+    }
+    if b < 0x30 {
+        return false;
+    }
+    if b <= 0x39 {
+        return true;
+    }
+    ascii_start(b)
+}
+
+// The long tables stand in functions of their own: a function that names a constant array stores it anew in each call.
+fn in_start(c: u32) -> bool
+    ensures { λ r. ⌜ r ≡ isStart c ⌝ }
+{
+    in_table(&START, c)
+}
+
+fn in_continue(c: u32) -> bool
+    ensures { λ r. ⌜ r ≡ isContinue c ⌝ }
+{
     in_table(&CONTINUE, c)
 }
 
-// Where the whitespace from `at` ends.
+// Where the whitespace from `at` ends. An ASCII character above the space ends it at once.
 pub fn space_end(text: &[u8], at: usize) -> usize
     ensures { λ r. ⌜ r ≡ runEnd isSpace (now (text .entry)) at ⌝ }
 {
-    run_end(&SPACE, text, at)
+    if at < text.len() {
+        let b = text[at];
+        if 0x20 < b {
+            if b < 0x80 {
+                return at;
+            }
+        }
+    }
+    run_end(Question::Space, text, at)
 }
 
-// Where the continuations from `at` end.
+// Where the continuations from `at` end. ASCII is passed a byte at a time.
 pub fn continue_end(text: &[u8], at: usize) -> usize
     ensures { λ r. ⌜ r ≡ runEnd isContinue (now (text .entry)) at ⌝ }
 {
-    run_end(&CONTINUE, text, at)
+    let i = ascii_continue_end(text, at);
+    if i < text.len() {
+        if text[i] < 0x80 {
+            return i;
+        }
+        return run_end(Question::Continue, text, i);
+    }
+    i
 }
 
-// Where the run of the table's characters from `at` ends. The table is lent: a function that names a constant array stores
-// it anew in each call, which a word of many letters must not pay for each letter.
-fn run_end(table: &[u32], text: &[u8], at: usize) -> usize
-    requires { ⌜ T (ascending 0 (now table)) ⌝ }
-    ensures { λ r. ⌜ r ≡ runEnd (member (now (table .entry))) (now (text .entry)) at ⌝ }
+// The place after the ASCII continuations at `at`.
+fn ascii_continue_end(text: &[u8], at: usize) -> usize
+    ensures { λ r. ⌜ runEnd isContinue (now (text .entry)) r ≡ runEnd isContinue (now (text .entry)) at ⌝ }
+    ensures { λ r. ⌜ (r < length (now (text .entry)) → asciiContinue (getD (now (text .entry)) r 0) ≡ false) ⌝ }
+{
+    let mut i = at;
+    while i < text.len() {
+        if !ascii_continue(text[i]) {
+            return i;
+        }
+        i += 1;
+    }
+    i
+}
+
+// A question that a run of characters is asked.
+enum Question {
+    Space,
+    Continue,
+}
+
+fn answers(question: Question, c: u32) -> bool
+    ensures { λ r. ⌜ r ≡ asked question c ⌝ }
+{
+    match question {
+        Question::Space => is_space(c),
+        Question::Continue => is_continue(c),
+    }
+}
+
+// Where the run of characters from `at` that answer a question with yes ends.
+fn run_end(question: Question, text: &[u8], at: usize) -> usize
+    ensures { λ r. ⌜ r ≡ runEnd (asked question) (now (text .entry)) at ⌝ }
 {
     let mut i = at;
     loop {
         match peek(text, i) {
             Seen::Char { code, width } => {
-                if in_table(table, code) {
+                if answers(question, code) {
                     i += width;
                 } else {
                     return i;
@@ -293,7 +453,7 @@ fn four(b: u8, c: u8, d: u8, e: u8) -> u32
 }
 
 // The byte at `at`, and 0 past the end.
-fn byte(text: &[u8], at: usize) -> u8
+pub fn byte(text: &[u8], at: usize) -> u8
     ensures { λ r. ⌜ r ≡ getD (now (text .entry)) at 0 ⌝ }
 {
     if at < text.len() { text[at] } else { 0 }

@@ -1,21 +1,43 @@
--- `unicode::continue_end` meets its contract: the constant holds the definition's numbers, which are ascending. Assumes nothing.
+-- `unicode::continue_end` meets its contract: past the ASCII continuations the run stops at an ASCII character, goes on at any
+-- other, and stops at the end. Assumes nothing.
 use borrow.Author.Needs.{needs}
-use Rattle.unicode.specs.Continue.{continue}
+use mathlib.Core.Path.{sym, _∙_}
+use denote.Ref.{now}
 use Rattle.unicode.specs.Questions.{isContinue}
-use Rattle.unicode.specs.QuestionLaws.{continue-ascending}
+use Rattle.unicode.specs.CharLaws.{past-end, run-end, ascii-stop}
+use Rattle.unicode.specs.AsciiLaws.{ascii-continue}
 use Rattle.unicode.proofs.continue_end.Statement.{statement}
 use Rattle.unicode.proofs.continue_end.Tie as tie
 
-slice-aggregate-run-end : tie.Need-slice-aggregate-run-end
-slice-aggregate-run-end c = search needs
+ascii-continue-end-requires : tie.Need-ascii-continue-end-requires
+ascii-continue-end-requires c κs = search needs
 
-run-end-requires : tie.Need-run-end-requires
-unfolding continue
-run-end-requires c κs = continue-ascending
+shared-slice-read-if2 : tie.Need-shared-slice-read-if2
+shared-slice-read-if2 c = search needs
 
 returns : tie.Need-returns
-unfolding isContinue continue
-returns c = c .run-end .ensures
+returns c =
+    let s = c .before .before in
+    let e = s .before .ascii-continue-end .ensures in
+    let h = s .if1 .taken in
+    sym (ascii-stop isContinue (now (s .before .before .before .args .text)) _ h (c .if2 .taken) (ascii-continue _ (c .if2 .taken) ∙ e .1 h)) ∙ e .0
+
+run-end-requires : tie.Need-run-end-requires
+run-end-requires c κs = search needs
+
+returns-2 : tie.Need-returns-2
+returns-2 c = c .run-end .ensures ∙ c .before .before .before .before .ascii-continue-end .ensures .0
+
+returns-3 : tie.Need-returns-3
+returns-3 c = sym (run-end isContinue _ _ (past-end (now (c .before .before .before .args .text)) _ (c .if1 .left))) ∙ c .before .ascii-continue-end .ensures .0
 
 pub continue-end-spec : {M : Type 1} → statement M
-continue-end-spec = tie.close (tie.spec slice-aggregate-run-end run-end-requires returns)
+continue-end-spec =
+    tie.close
+    (tie.spec
+    ascii-continue-end-requires
+    shared-slice-read-if2
+    returns
+    run-end-requires
+    returns-2
+    returns-3)

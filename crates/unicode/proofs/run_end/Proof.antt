@@ -1,5 +1,5 @@
 -- `unicode::run_end` meets its contract. The invariant: the run from `i` ends where the run from `at` does, since each turn
--- passes a character of the table and the loop stops at the first that is none, or at the end. The measure is what is left of
+-- passes a character that answers yes and the loop stops at the first that does not, or at the end. The measure is what is left of
 -- the text. Assumes nothing.
 use borrow.Author.Needs.{needs}
 use Prim.Native.Nat.{_-_}
@@ -7,17 +7,17 @@ use mathlib.Core.Path.{_≡_, refl, sym, _∙_}
 use native.Mathlib.Omega.{arith}
 use lib.ListN.{length}
 use denote.Ref.{now}
-use Rattle.unicode.specs.Table.{member}
+use Rattle.unicode.specs.Questions.{asked}
 use Rattle.unicode.specs.Chars.{runEnd}
 use Rattle.unicode.specs.CharLaws.{Peeked, peeked, run-more, run-stop, run-end}
 use Rattle.unicode.proofs.run_end.Statement.{statement}
 use Rattle.unicode.proofs.run_end.Tie as tie
 
 abbrev Inv-loop : tie.InvT-loop
-Inv-loop table text at i₀ i = runEnd (member table) text i ≡ runEnd (member table) text at
+Inv-loop question text at i₀ i = runEnd (asked question) text i ≡ runEnd (asked question) text at
 
 abbrev μ-loop : tie.MeasureT-loop
-μ-loop table text at i₀ i = length text - i
+μ-loop question text at i₀ i = length text - i
 
 loop-holds : tie.Need-loop-holds Inv-loop μ-loop
 loop-holds c = refl
@@ -28,12 +28,12 @@ peek-requires c κs = search needs
 enum-known-code : tie.Need-enum-known-code Inv-loop μ-loop
 enum-known-code c = search needs
 
-in-table-requires : tie.Need-in-table-requires Inv-loop μ-loop
-in-table-requires c κs = c .before .before .before .before .before .before .before .pre
+answers-requires : tie.Need-answers-requires Inv-loop μ-loop
+answers-requires c κs = search needs
 
 -- the character at `i`
-seen : (c : tie.After-in-table Inv-loop μ-loop) →
-    Peeked (now (c .before .before .before .before .before .before .before .before .args .text)) (c .before .before .before .before .before .loop .i)
+seen : (c : tie.After-answers Inv-loop μ-loop) →
+    Peeked (now (c .before .before .before .before .before .before .before .args .text)) (c .before .before .before .before .before .loop .i)
     (c .before .before .code .given .0 .0) (c .before .before .code .given .0 .1 .0)
 seen c = peeked _ _ (sym (c .before .before .before .before .peek .ensures) ∙ c .before .before .code .given .1)
 
@@ -44,16 +44,18 @@ loop-less : tie.Need-loop-less Inv-loop μ-loop
 loop-less c = let p = seen (c .before) in omega arith
 
 loop-again : tie.Need-loop-again Inv-loop μ-loop
-loop-again c = run-more (member _) (seen (c .before)) (sym (c .before .in-table .ensures) ∙ c .if1 .taken) ∙ c .before .before .before .before .before .before .loop .inv
+loop-again c =
+    run-more (asked (c .before .before .before .before .before .before .before .before .args .question)) (seen (c .before)) (sym (c .before .answers .ensures) ∙ c .if1 .taken) ∙ c .before .before .before .before .before .before .loop .inv
 
 returns : tie.Need-returns Inv-loop μ-loop
-returns c = sym (run-stop (member _) (seen (c .before)) (sym (c .before .in-table .ensures) ∙ c .if1 .left)) ∙ c .before .before .before .before .before .before .loop .inv
+returns c =
+    sym (run-stop (asked (c .before .before .before .before .before .before .before .before .args .question)) (seen (c .before)) (sym (c .before .answers .ensures) ∙ c .if1 .left)) ∙ c .before .before .before .before .before .before .loop .inv
 
 enum-told : tie.Need-enum-told Inv-loop μ-loop
 enum-told c = search needs
 
 returns-2 : tie.Need-returns-2 Inv-loop μ-loop
-returns-2 c = sym (run-end (member _) _ _ (sym (c .before .before .peek .ensures) ∙ c .enum-told .given .1)) ∙ c .before .before .before .loop .inv
+returns-2 c = sym (run-end (asked (c .before .before .before .before .before .args .question)) _ _ (sym (c .before .before .peek .ensures) ∙ c .enum-told .given .1)) ∙ c .before .before .before .loop .inv
 
 pub run-end-spec : {M : Type 1} → statement M
 run-end-spec =
@@ -64,7 +66,7 @@ run-end-spec =
     loop-holds
     peek-requires
     enum-known-code
-    in-table-requires
+    answers-requires
     add-i
     loop-less
     loop-again

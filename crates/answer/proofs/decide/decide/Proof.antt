@@ -1,131 +1,30 @@
--- `answer::decide::decide` meets its contract: its tests are those of `answerOf`, in the same order; each refusal's answer is the one
--- given there, and a text that passes them all is decided as its counts say.
+-- `answer::decide::decide` meets its contract: a refusal before the text is read is the answer, and a text without one is decided as its
+-- counts say.
 use borrow.Author.Needs.{needs}
-use borrow.Author.Tests.{lt-ltb, le-ltb, not-true, not-false}
-use native.Mathlib.Omega.{arith}
-use mathlib.Core.Path.{sym, _∙_}
-use Rattle.unicode.specs.Choice.{pick}
-use Rattle.answer.specs.Answers.{isBroken, answerOf}
-use Rattle.answer.specs.AnswerLaws.{not-long}
-use Rattle.answer.proofs.Decisions.{refuses, counts}
+use denote.Ref.{now}
+use Rattle.answer.specs.AnswerLaws.{opened-small}
+use Rattle.answer.proofs.Decisions.{stays, counts}
 use Rattle.answer.proofs.decide.decide.Statement.{statement}
 use Rattle.answer.proofs.decide.decide.Tie as tie
 
-refused-requires : tie.Need-refused-requires
-refused-requires c κs = search needs
+opened-requires : tie.Need-opened-requires
+opened-requires c κs = search needs
 
 returns : tie.Need-returns
-unfolding isBroken answerOf pick
 returns c =
-    refuses _ _ _ _ _ (omega arith) (c .refused .ensures) (rw (lt-ltb _ _ (c .before .if1 .taken)))
-
-is-styled-requires : tie.Need-is-styled-requires
-is-styled-requires c κs = search needs
-
-refused-requires-2 : tie.Need-refused-requires-2
-refused-requires-2 c κs = search needs
-
-returns-2 : tie.Need-returns-2
-unfolding isBroken answerOf pick
-returns-2 c =
-    refuses _ _ _ _ _ (omega arith) (c .refused2 .ensures) (rw (
-      le-ltb _ _ (c .before .before .before .if1 .left),
-      ← c .before .before .is-styled .ensures,
-      not-true (c .before .before .is-styled .result) (c .before .if2 .taken),
-    ))
-
-is-long-requires : tie.Need-is-long-requires
-is-long-requires c κs = search needs
-
-refused-requires-3 : tie.Need-refused-requires-3
-refused-requires-3 c κs = search needs
-
-returns-3 : tie.Need-returns-3
-unfolding isBroken answerOf pick
-returns-3 c =
-    refuses _ _ _ _ _ (omega arith) (c .refused3 .ensures) (rw (
-      le-ltb _ _ (c .before .before .before .before .before .if1 .left),
-      ← c .before .before .before .before .is-styled .ensures,
-      not-false (c .before .before .before .before .is-styled .result) (c .before .before .before .if2 .left),
-      ← c .before .before .is-long .ensures,
-      c .before .if3 .taken,
-    ))
-
-valid-prefix-requires : tie.Need-valid-prefix-requires
-valid-prefix-requires c κs = search needs
-
-refused-requires-4 : tie.Need-refused-requires-4
-refused-requires-4 c κs = search needs
-
-returns-4 : tie.Need-returns-4
-unfolding isBroken answerOf pick
-returns-4 c =
-    refuses _ _ _ _ _ (omega arith) (c .refused4 .ensures) (rw (
-      le-ltb _ _ (c .before .before .before .before .before .before .before .if1 .left),
-      ← c .before .before .before .before .before .before .is-styled .ensures,
-      not-false (c .before .before .before .before .before .before .is-styled .result) (c .before .before .before .before .before .if2 .left),
-      ← c .before .before .before .before .is-long .ensures,
-      c .before .before .before .if3 .left,
-      ← c .before .before .valid-prefix .ensures,
-      lt-ltb _ _ (c .before .if4 .taken),
-    ))
-
-lacks-newline-requires : tie.Need-lacks-newline-requires
-lacks-newline-requires c κs = search needs
-
-refused-requires-5 : tie.Need-refused-requires-5
-refused-requires-5 c κs = search needs
-
-returns-5 : tie.Need-returns-5
-unfolding isBroken answerOf pick
-returns-5 c =
-    refuses _ _ _ _ _ (omega arith) (c .refused5 .ensures) (rw (
-      le-ltb _ _ (c .before .before .before .before .before .before .before .before .before .if1 .left),
-      ← c .before .before .before .before .before .before .before .before .is-styled .ensures,
-      not-false (c .before .before .before .before .before .before .before .before .is-styled .result) (c .before .before .before .before .before .before .before .if2 .left),
-      ← c .before .before .before .before .before .before .is-long .ensures,
-      c .before .before .before .before .before .if3 .left,
-      ← c .before .before .before .before .valid-prefix .ensures,
-      le-ltb _ _ (c .before .before .before .if4 .left),
-      ← c .before .before .lacks-newline .ensures,
-      c .before .if5 .taken,
-    ))
+    let s = c .before .before .before .before .before .before .before .args in
+    stays (now (s .text)) (now (s .snippet)) (s .request) (s .rooms) (c .before .before .before .before .opened .ensures) (c .if1 .taken)
 
 counted-requires : tie.Need-counted-requires
-counted-requires c κs = not-long _ _ _ (sym (c .before .before .before .before .before .is-long .ensures) ∙ c .before .before .before .before .if3 .left)
+counted-requires c κs =
+    let s = c .before .before .before .before .before .before .before .args in
+    opened-small (now (s .text)) (now (s .snippet)) (s .request) (c .before .before .before .before .opened .ensures) (c .if1 .left)
 
-returns-6 : tie.Need-returns-6
-unfolding isBroken answerOf pick
-returns-6 c =
-    counts _ _ _ _ _ (c .counted .ensures) (rw (
-      le-ltb _ _ (c .before .before .before .before .before .before .before .before .before .if1 .left),
-      ← c .before .before .before .before .before .before .before .before .is-styled .ensures,
-      not-false (c .before .before .before .before .before .before .before .before .is-styled .result) (c .before .before .before .before .before .before .before .if2 .left),
-      ← c .before .before .before .before .before .before .is-long .ensures,
-      c .before .before .before .before .before .if3 .left,
-      ← c .before .before .before .before .valid-prefix .ensures,
-      le-ltb _ _ (c .before .before .before .if4 .left),
-      ← c .before .before .lacks-newline .ensures,
-      c .before .if5 .left,
-    ))
+returns-2 : tie.Need-returns-2
+returns-2 c =
+    let s = c .before .before .before .before .before .before .before .before .args in
+    counts (now (s .text)) (now (s .snippet)) (s .request) (s .rooms) (c .before .before .before .before .before .opened .ensures) (c .before .if1 .left)
+    (c .counted .ensures)
 
 pub decide-spec : {M : Type 1} → statement M
-decide-spec =
-    tie.close
-    (tie.spec
-    refused-requires
-    returns
-    is-styled-requires
-    refused-requires-2
-    returns-2
-    is-long-requires
-    refused-requires-3
-    returns-3
-    valid-prefix-requires
-    refused-requires-4
-    returns-4
-    lacks-newline-requires
-    refused-requires-5
-    returns-5
-    counted-requires
-    returns-6)
+decide-spec = tie.close (tie.spec opened-requires returns counted-requires returns-2)

@@ -1,5 +1,6 @@
--- `read` meets its contract: a walk of its MIR, by hand, with one branch. The lengths make the rooms, and the covered `decide` decides. Where the number is 0
--- each list goes to its filler for good, and where it is not the lists are as they were. What the decision says of the lists is `proofs/Calling.antt`'s. Assumes nothing.
+-- `read` meets its contract: a walk of its MIR, by hand, with two branches. The lengths make the rooms, and the covered `decide` decides. Where the number is 0
+-- each list goes to its filler for good, but for the errors' where their count is 0; it is then as it was, and so are all where the number is not 0.
+-- What the decision says of the lists is `proofs/Calling.antt`'s. Assumes nothing.
 use mathlib.Core.Path.{_≡_, refl, ap, subst}
 use Prim.Native.Nat.{ℕ, _<_, _≤_, _^_, _*_, _/_}
 use native.Mathlib.Nat.{div-le-self, lt-of-le-of-lt}
@@ -129,7 +130,7 @@ abbrev errors-code : Body
 errors-code = after (after (after (after (after then-code))))
 
 abbrev places-code : Body
-places-code = after (after (after errors-code))
+places-code = after (after errors-code)
 
 abbrev lines-code : Body
 lines-code = after (after (after places-code))
@@ -285,7 +286,7 @@ module _ {M : Type 1} (𝓤 : URA M) (H : Heap 𝓤) (A : Atoms 𝓤) (W : Given
 
   module _ (C : Calls 𝓤 H) (Λ : Loops 𝓤 H) (fm : FmC 𝓤 H (W .laws) C) (known-decide : Triple 𝓤 (C #answer·decide·decide) (Decide 𝓤 H A mem run)) (known-pieces : Triple 𝓤 (C #reader·lists·fill-pieces) (Pieces 𝓤 H A mem run))
       (known-errors : Triple 𝓤 (C #reader·lists·fill-errors) (Errors 𝓤 H A mem run)) (known-places : Triple 𝓤 (C #answer·spans·fill-places) (Places 𝓤 H A mem run)) (known-lines : Triple 𝓤 (C #answer·spans·fill-lines) (Lines 𝓤 H A mem run)) where
-    module _ (l₀ l₁ l₂ l₃ l₄ l₅ l₆ l₇ l₈ l₉ l₁₀ l₁₁ l₁₂ l₁₃ l₁₄ l₁₅ l₁₆ l₁₇ l₁₈ l₁₉ l₂₀ l₂₁ l₂₂ l₂₃ l₂₄ l₂₅ l₂₆ l₂₇ l₂₈ l₂₉ : ℕ) where
+    module _ (l₀ l₁ l₂ l₃ l₄ l₅ l₆ l₇ l₈ l₉ l₁₀ l₁₁ l₁₂ l₁₃ l₁₄ l₁₅ l₁₆ l₁₇ l₁₈ l₁₉ l₂₀ l₂₁ l₂₂ l₂₃ l₂₄ l₂₅ l₂₆ l₂₇ l₂₈ l₂₉ l₃₀ l₃₁ : ℕ) where
       abbrev word : Ty
       word = tyInt w64
 
@@ -317,12 +318,12 @@ module _ {M : Type 1} (𝓤 : URA M) (H : Heap 𝓤) (A : Atoms 𝓤) (W : Given
       wref = tyRef erased mut word
 
       abbrev En : Env 𝓤 H
-      En = (An′.mir, l₀) ∷ (tslice, l₁) ∷ (sslice, l₂) ∷ (Rq′.mir, l₃) ∷ (pslice, l₄) ∷ (eslice, l₅) ∷ (lslice, l₆) ∷ (nslice, l₇) ∷ (Ro′.mir, l₈) ∷ (De′.mir, l₉) ∷ (An′.mir, l₁₀) ∷ (Fr′.mir, l₁₁) ∷ (Mo′.mir, l₁₂) ∷ (word, l₁₃) ∷ (word, l₁₄) ∷ (word, l₁₅) ∷ (word, l₁₆) ∷ (word, l₁₇) ∷ (word, l₁₈) ∷ (tyBool, l₁₉) ∷ (word, l₂₀) ∷ (pref, l₂₁) ∷ (sliceTy pref, l₂₂) ∷ (eref, l₂₃) ∷ (sliceTy eref, l₂₄) ∷ (tyUnit, l₂₅) ∷ (wref, l₂₆) ∷ (sliceTy wref, l₂₇) ∷ (wref, l₂₈) ∷ (sliceTy wref, l₂₉) ∷ []
+      En = (An′.mir, l₀) ∷ (tslice, l₁) ∷ (sslice, l₂) ∷ (Rq′.mir, l₃) ∷ (pslice, l₄) ∷ (eslice, l₅) ∷ (lslice, l₆) ∷ (nslice, l₇) ∷ (Ro′.mir, l₈) ∷ (De′.mir, l₉) ∷ (An′.mir, l₁₀) ∷ (Fr′.mir, l₁₁) ∷ (Mo′.mir, l₁₂) ∷ (word, l₁₃) ∷ (word, l₁₄) ∷ (word, l₁₅) ∷ (word, l₁₆) ∷ (word, l₁₇) ∷ (word, l₁₈) ∷ (tyBool, l₁₉) ∷ (word, l₂₀) ∷ (pref, l₂₁) ∷ (sliceTy pref, l₂₂) ∷ (tyBool, l₂₃) ∷ (word, l₂₄) ∷ (eref, l₂₅) ∷ (sliceTy eref, l₂₆) ∷ (tyUnit, l₂₇) ∷ (wref, l₂₈) ∷ (sliceTy wref, l₂₉) ∷ (wref, l₃₀) ∷ (sliceTy wref, l₃₁) ∷ []
 
       -- the locals, with i₈ to i₁₂ at the rooms', the decision's, the answer's, the frame's and the mode's
       abbrev Locals : Item 𝓤 → Item 𝓤 → Item 𝓤 → Item 𝓤 → Item 𝓤 → List (Item 𝓤) → List (Item 𝓤)
-      Locals i₈ i₉ i₁₀ i₁₁ i₁₂ Γ = ‵ (froom (sliceTy wref) l₂₉ 0) ∷ ‵ (fdies (sliceTy wref) l₂₉) ∷ ‵ (froom wref l₂₈ 0) ∷ ‵ (fdies wref l₂₈) ∷ ‵ (froom (sliceTy wref) l₂₇ 0) ∷ ‵ (fdies (sliceTy wref) l₂₇) ∷ ‵ (froom wref l₂₆ 0) ∷ ‵ (fdies wref l₂₆) ∷ ‵ (froom tyUnit l₂₅ 0) ∷ ‵ (fdies tyUnit l₂₅)
-          ∷ ‵ (froom (sliceTy eref) l₂₄ 0) ∷ ‵ (fdies (sliceTy eref) l₂₄) ∷ ‵ (froom eref l₂₃ 0) ∷ ‵ (fdies eref l₂₃) ∷ ‵ (froom (sliceTy pref) l₂₂ 0) ∷ ‵ (fdies (sliceTy pref) l₂₂) ∷ ‵ (froom pref l₂₁ 0) ∷ ‵ (fdies pref l₂₁) ∷ ‵ (froom word l₂₀ 0) ∷ ‵ (fdies word l₂₀)
+      Locals i₈ i₉ i₁₀ i₁₁ i₁₂ Γ = ‵ (froom (sliceTy wref) l₃₁ 0) ∷ ‵ (fdies (sliceTy wref) l₃₁) ∷ ‵ (froom wref l₃₀ 0) ∷ ‵ (fdies wref l₃₀) ∷ ‵ (froom (sliceTy wref) l₂₉ 0) ∷ ‵ (fdies (sliceTy wref) l₂₉) ∷ ‵ (froom wref l₂₈ 0) ∷ ‵ (fdies wref l₂₈) ∷ ‵ (froom tyUnit l₂₇ 0) ∷ ‵ (fdies tyUnit l₂₇)
+          ∷ ‵ (froom (sliceTy eref) l₂₆ 0) ∷ ‵ (fdies (sliceTy eref) l₂₆) ∷ ‵ (froom eref l₂₅ 0) ∷ ‵ (fdies eref l₂₅) ∷ ‵ (froom word l₂₄ 0) ∷ ‵ (fdies word l₂₄) ∷ ‵ (froom tyBool l₂₃ 0) ∷ ‵ (fdies tyBool l₂₃) ∷ ‵ (froom (sliceTy pref) l₂₂ 0) ∷ ‵ (fdies (sliceTy pref) l₂₂) ∷ ‵ (froom pref l₂₁ 0) ∷ ‵ (fdies pref l₂₁) ∷ ‵ (froom word l₂₀ 0) ∷ ‵ (fdies word l₂₀)
           ∷ ‵ (froom tyBool l₁₉ 0) ∷ ‵ (fdies tyBool l₁₉) ∷ ‵ (froom word l₁₈ 0) ∷ ‵ (fdies word l₁₈) ∷ ‵ (froom word l₁₇ 0) ∷ ‵ (fdies word l₁₇) ∷ ‵ (froom word l₁₆ 0) ∷ ‵ (fdies word l₁₆) ∷ ‵ (froom word l₁₅ 0) ∷ ‵ (fdies word l₁₅)
           ∷ ‵ (froom word l₁₄ 0) ∷ ‵ (fdies word l₁₄) ∷ ‵ (froom word l₁₃ 0) ∷ ‵ (fdies word l₁₃) ∷ i₁₂ ∷ ‵ (fdies Mo′.mir l₁₂) ∷ i₁₁ ∷ ‵ (fdies Fr′.mir l₁₁) ∷ i₁₀ ∷ ‵ (fdies An′.mir l₁₀)
           ∷ i₉ ∷ ‵ (fdies De′.mir l₉) ∷ i₈ ∷ ‵ (fdies Ro′.mir l₈) ∷ ‵ (fat fullShare nslice l₇ 0 sn) ∷ ‵ (fdies nslice l₇) ∷ ‵ (fat fullShare lslice l₆ 0 sl) ∷ ‵ (fdies lslice l₆) ∷ ‵ (fat fullShare eslice l₅ 0 se) ∷ ‵ (fdies eslice l₅)
@@ -332,10 +333,10 @@ module _ {M : Type 1} (𝓤 : URA M) (H : Heap 𝓤) (A : Atoms 𝓤) (W : Given
           → Read ts ss′ rq ps ps′ es es′ ls ls′ ns ns′ (d .answer)
           → Sq W (Locals (‵ (froom Ro′.mir l₈ 0)) (‵ (fat fullShare De′.mir l₉ 0 (dval d))) (‵ (fat fullShare An′.mir l₁₀ 0 (val (d .answer)))) (‵ (froom Fr′.mir l₁₁ 0)) (‵ (froom Mo′.mir l₁₂ 0)) (Left ps′ es′ ls′ ns′)) (runs C Λ En M′.t-12 (atRet En Post))
       ends d isr ps′ es′ ls′ ns′ lp le ll ln said =
-          assigns ! (of-opd ! (load ! (from ! (stop !)) (look ! 38 refl))) (from ! (stop !)) (init ! 58 refl (LL.lawful An.the-type An′.the-laws 𝓤 H A W .typed (d .answer) _ isr .0)) $
-          returns ! (look ! 58 refl) $ forget ! 40 refl $ forget ! 38 refl $
-          forget ! 44 refl $ forget ! 46 refl $ forget ! 48 refl $ forget ! 50 refl $ forget ! 52 refl $ forget ! 54 refl $ forget ! 56 refl $ forget ! 58 refl $
-          move ! (58 ∷ 59 ∷ []) $ free1 ! $ move ! (56 ∷ 57 ∷ []) $ free1 ! $ move ! (54 ∷ 55 ∷ []) $ free1 ! $ move ! (52 ∷ 53 ∷ []) $ free1 ! $ move ! (50 ∷ 51 ∷ []) $ free1 ! $ move ! (48 ∷ 49 ∷ []) $ free1 ! $ move ! (46 ∷ 47 ∷ []) $ free1 ! $ move ! (44 ∷ 45 ∷ []) $ free1 ! $
+          assigns ! (of-opd ! (load ! (from ! (stop !)) (look ! 42 refl))) (from ! (stop !)) (init ! 62 refl (LL.lawful An.the-type An′.the-laws 𝓤 H A W .typed (d .answer) _ isr .0)) $
+          returns ! (look ! 62 refl) $ forget ! 44 refl $ forget ! 42 refl $
+          forget ! 48 refl $ forget ! 50 refl $ forget ! 52 refl $ forget ! 54 refl $ forget ! 56 refl $ forget ! 58 refl $ forget ! 60 refl $ forget ! 62 refl $
+          move ! (62 ∷ 63 ∷ []) $ free1 ! $ move ! (60 ∷ 61 ∷ []) $ free1 ! $ move ! (58 ∷ 59 ∷ []) $ free1 ! $ move ! (56 ∷ 57 ∷ []) $ free1 ! $ move ! (54 ∷ 55 ∷ []) $ free1 ! $ move ! (52 ∷ 53 ∷ []) $ free1 ! $ move ! (50 ∷ 51 ∷ []) $ free1 ! $ move ! (48 ∷ 49 ∷ []) $ free1 ! $ move ! (46 ∷ 47 ∷ []) $ free1 ! $ move ! (44 ∷ 45 ∷ []) $ free1 ! $
           move ! (42 ∷ 43 ∷ []) $ free1 ! $ move ! (40 ∷ 41 ∷ []) $ free1 ! $ move ! (38 ∷ 39 ∷ []) $ free1 ! $ move ! (36 ∷ 37 ∷ []) $ free1 ! $ move ! (34 ∷ 35 ∷ []) $ free1 ! $ move ! (32 ∷ 33 ∷ []) $ free1 ! $ move ! (30 ∷ 31 ∷ []) $ free1 ! $ move ! (28 ∷ 29 ∷ []) $ free1 ! $
           move ! (26 ∷ 27 ∷ []) $ free1 ! $ move ! (24 ∷ 25 ∷ []) $ free1 ! $ move ! (22 ∷ 23 ∷ []) $ free1 ! $ move ! (20 ∷ 21 ∷ []) $ free1 ! $ move ! (18 ∷ 19 ∷ []) $ free1 ! $ move ! (16 ∷ 17 ∷ []) $ free1 ! $ move ! (14 ∷ 15 ∷ []) $ free1 ! $ move ! (12 ∷ 13 ∷ []) $ free1 ! $
           move ! (10 ∷ 11 ∷ []) $ free1 ! $ move ! (8 ∷ 9 ∷ []) $ free1 ! $ move ! (6 ∷ 7 ∷ []) $ free1 ! $ move ! (4 ∷ 5 ∷ []) $ free1 ! $ move ! (2 ∷ 3 ∷ []) $ free1 ! $ free1 ! $ free0 ! $ by ! (exits (d .answer) isr ps′ es′ ls′ ns′ lp le ll ln said)
@@ -414,105 +415,111 @@ module _ {M : Type 1} (𝓤 : URA M) (H : Heap 𝓤) (A : Atoms 𝓤) (W : Given
           fills-lines : (p : Now (pieces ts fr md) ps) (e : Now (errors ts fr md) es) (l : Now (pairs (places ts fr md)) ls)
               → Sq W (Filling (Held (finally P (xp .name) (p .now)) (finally E (xe .name) (e .now)) (finally usize (xl .name) (l .now)) OwnN)) (runs C Λ En lines-code (anyQ Arm))
           fills-lines p e l =
-              assigns ! (addr ! (from ! (fld ! refl (hop ! (look-in ! 44 (sub ! 0 refl (whole !))) (stop !))))) (from ! (stop !)) (init ! 2 refl (tt, tt)) $
-              assigns ! (agg ! (and-then ! (load ! (from ! (stop !)) (look ! 2 refl)) (and-then ! (load ! (from ! (fld ! refl (stop !))) (look-in ! 44 (sub ! 1 refl (whole !)))) (no-more !)))) (from ! (stop !)) (init ! 0 refl (tt, (tt, (record { fits = n-room .0 }, tt)))) $
-              move ! (66 ∷ []) $ use1 W (‵ OwnT ⊛ ‵ OwnT) (shr-slice-copy 𝓤 H A W (named 0) κt u8 .twice xt (st ∷ [])) $ split ! $ move ! (62 ∷ 67 ∷ 0 ∷ 72 ∷ []) $ join ! $ use3 W (raw (Lines 𝓤 H A mem run .pre to-lines)) (asks-lines (are .lines)) $
-              calls-at-last ! fm (Lines 𝓤 H A mem run) known-lines to-lines (and-then ! (load ! (from ! (stop !)) (look ! 58 refl)) (and-then ! (load ! (from ! (stop !)) (look ! 38 refl)) (and-then ! (load ! (from ! (stop !)) (look ! 36 refl)) (and-then ! (load ! (from ! (stop !)) (look ! 2 refl)) (no-more !))))) (λ w.
+              assigns ! (addr ! (from ! (fld ! refl (hop ! (look-in ! 48 (sub ! 0 refl (whole !))) (stop !))))) (from ! (stop !)) (init ! 2 refl (tt, tt)) $
+              assigns ! (agg ! (and-then ! (load ! (from ! (stop !)) (look ! 2 refl)) (and-then ! (load ! (from ! (fld ! refl (stop !))) (look-in ! 48 (sub ! 1 refl (whole !)))) (no-more !)))) (from ! (stop !)) (init ! 0 refl (tt, (tt, (record { fits = n-room .0 }, tt)))) $
+              move ! (70 ∷ []) $ use1 W (‵ OwnT ⊛ ‵ OwnT) (shr-slice-copy 𝓤 H A W (named 0) κt u8 .twice xt (st ∷ [])) $ split ! $ move ! (66 ∷ 71 ∷ 0 ∷ 76 ∷ []) $ join ! $ use3 W (raw (Lines 𝓤 H A mem run .pre to-lines)) (asks-lines (are .lines)) $
+              calls-at-last ! fm (Lines 𝓤 H A mem run) known-lines to-lines (and-then ! (load ! (from ! (stop !)) (look ! 62 refl)) (and-then ! (load ! (from ! (stop !)) (look ! 42 refl)) (and-then ! (load ! (from ! (stop !)) (look ! 40 refl)) (and-then ! (load ! (from ! (stop !)) (look ! 2 refl)) (no-more !))))) (λ w.
               use1 W (later (some (λ (k : Unit {0}). ((‵ (flft κt qt) ⊛ ‵ (flft κn qn) ⊛ ‵ ftrue) ⊛ ‵ (Nothing .own k (w ∷ []))) ⊛ raw (ensured 𝓤 H A fn.ended (fn.clauses 𝓤 H A mem run) (κt, (κn, tt)) (xt, (fr, (md, (xn, tt)))) tt k)))) (id⊢ 𝓤 _) $ await ! tt $ pick ! (λ k.
               split ! $ move ! (1 ∷ []) $ use1 W (some (λ (ws : Unit {0} × (Unit {0} × (Unit {0} × (List ℕ × Unit {0})))). ‵ (lasts fn.ended (κt, (κn, tt)) (xt, (fr, (md, (xn, tt)))) ws) ⊛ raw (fact 𝓤 (ws .1 .1 .1 .0 ≡ over (pairs (lines ts fr md)) ns)))) (id⊢ 𝓤 _) $ pick ! (λ ws.
               split ! $ move ! (1 ∷ []) $ heard ! (ws .1 .1 .1 .0 ≡ over (pairs (lines ts fr md)) ns) (λ filled. fsplit ! $ move ! (1 ∷ []) $ fsplit ! $ move ! (1 ∷ []) $ fsplit ! $ move ! (1 ∷ []) $ fsplit ! $ fsplit ! $ move ! (1 ∷ []) $ feqL ! (λ len.
               move ! (5 ∷ []) $ split ! $ move ! (1 ∷ []) $ peeks ! Nothing (Is Nothing) (shows 𝓤 H A Nothing) k (w ∷ []) (λ is.
               land-last ! (from ! (stop !)) (init ! 16 refl (nothing-lawful 𝓤 H A W .typed k _ is .0)) $ move ! (1 ∷ []) $ split ! $ move ! (1 ∷ []) $ split ! $
-              forget ! 12 refl $ forget ! 10 refl $ forget ! 18 refl $ forget ! 46 refl $ forget ! 44 refl $
-              keep ! (10 ∷ 11 ∷ 12 ∷ 13 ∷ 14 ∷ 15 ∷ 16 ∷ 17 ∷ 18 ∷ 19 ∷ 20 ∷ 21 ∷ 22 ∷ 23 ∷ 24 ∷ 25 ∷ 26 ∷ 27 ∷ 28 ∷ 29 ∷ 30 ∷ 31 ∷ 32 ∷ 33 ∷ 34 ∷ 35 ∷ 36 ∷ 37 ∷ 38 ∷ 39 ∷ 40 ∷ 41 ∷ 42 ∷ 43 ∷ 44 ∷ 45 ∷ 46 ∷ 47 ∷ 48 ∷ 49 ∷ 50 ∷ 51 ∷ 52 ∷ 53 ∷ 54 ∷ 55 ∷ 56 ∷ 57 ∷ 58 ∷ 59 ∷ 60 ∷ 61 ∷ 62 ∷ 63 ∷ 64 ∷ 65 ∷ 66 ∷ 67 ∷ 68 ∷ 69 ∷ 2 ∷ 70 ∷ 71 ∷ 72 ∷ 73 ∷ 0 ∷ 9 ∷ 74 ∷ 75 ∷ 76 ∷ 77 ∷ 4 ∷ []) $
+              forget ! 12 refl $ forget ! 10 refl $ forget ! 18 refl $ forget ! 50 refl $ forget ! 48 refl $
+              keep ! (10 ∷ 11 ∷ 12 ∷ 13 ∷ 14 ∷ 15 ∷ 16 ∷ 17 ∷ 18 ∷ 19 ∷ 20 ∷ 21 ∷ 22 ∷ 23 ∷ 24 ∷ 25 ∷ 26 ∷ 27 ∷ 28 ∷ 29 ∷ 30 ∷ 31 ∷ 32 ∷ 33 ∷ 34 ∷ 35 ∷ 36 ∷ 37 ∷ 38 ∷ 39 ∷ 40 ∷ 41 ∷ 42 ∷ 43 ∷ 44 ∷ 45 ∷ 46 ∷ 47 ∷ 48 ∷ 49 ∷ 50 ∷ 51 ∷ 52 ∷ 53 ∷ 54 ∷ 55 ∷ 56 ∷ 57 ∷ 58 ∷ 59 ∷ 60 ∷ 61 ∷ 62 ∷ 63 ∷ 64 ∷ 65 ∷ 66 ∷ 67 ∷ 68 ∷ 69 ∷ 70 ∷ 71 ∷ 72 ∷ 73 ∷ 2 ∷ 74 ∷ 75 ∷ 76 ∷ 77 ∷ 0 ∷ 9 ∷ 78 ∷ 79 ∷ 80 ∷ 81 ∷ 4 ∷ []) $
               exec ! C Λ En M′.t-12 (atRet En Post) $ ends d isa (p .now) (e .now) (l .now) (ws .1 .1 .1 .0) (p .long) (e .long) (l .long) len (Ca.finished ps es ls ns ts ss′ rq d decided zero (p .now) (e .now) (l .now) (ws .1 .1 .1 .0) (p .is) (e .is) (l .is) filled)))))))
 
           fills-places : (p : Now (pieces ts fr md) ps) (e : Now (errors ts fr md) es)
               → Sq W (Filling (Held (finally P (xp .name) (p .now)) (finally E (xe .name) (e .now)) OwnL OwnN)) (runs C Λ En places-code (anyQ Arm))
           fills-places p e =
-              assigns ! (addr ! (from ! (fld ! refl (hop ! (look-in ! 46 (sub ! 0 refl (whole !))) (stop !))))) (from ! (stop !)) (init ! 6 refl (tt, tt)) $
-              assigns ! (agg ! (and-then ! (load ! (from ! (stop !)) (look ! 6 refl)) (and-then ! (load ! (from ! (fld ! refl (stop !))) (look-in ! 46 (sub ! 1 refl (whole !)))) (no-more !)))) (from ! (stop !)) (init ! 4 refl (tt, (tt, (record { fits = l-room .0 }, tt)))) $
-              move ! (66 ∷ []) $ use1 W (‵ OwnT ⊛ ‵ OwnT) (shr-slice-copy 𝓤 H A W (named 0) κt u8 .twice xt (st ∷ [])) $ split ! $ move ! (62 ∷ 66 ∷ 0 ∷ 71 ∷ []) $ join ! $ use3 W (raw (Places 𝓤 H A mem run .pre to-places)) (asks-places (are .places)) $
-              calls-at ! fm (Places 𝓤 H A mem run) known-places to-places (and-then ! (load ! (from ! (stop !)) (look ! 58 refl)) (and-then ! (load ! (from ! (stop !)) (look ! 38 refl)) (and-then ! (load ! (from ! (stop !)) (look ! 36 refl)) (and-then ! (load ! (from ! (stop !)) (look ! 6 refl)) (no-more !))))) (λ w.
+              assigns ! (addr ! (from ! (fld ! refl (hop ! (look-in ! 50 (sub ! 0 refl (whole !))) (stop !))))) (from ! (stop !)) (init ! 6 refl (tt, tt)) $
+              assigns ! (agg ! (and-then ! (load ! (from ! (stop !)) (look ! 6 refl)) (and-then ! (load ! (from ! (fld ! refl (stop !))) (look-in ! 50 (sub ! 1 refl (whole !)))) (no-more !)))) (from ! (stop !)) (init ! 4 refl (tt, (tt, (record { fits = l-room .0 }, tt)))) $
+              move ! (70 ∷ []) $ use1 W (‵ OwnT ⊛ ‵ OwnT) (shr-slice-copy 𝓤 H A W (named 0) κt u8 .twice xt (st ∷ [])) $ split ! $ move ! (66 ∷ 70 ∷ 0 ∷ 75 ∷ []) $ join ! $ use3 W (raw (Places 𝓤 H A mem run .pre to-places)) (asks-places (are .places)) $
+              calls-at ! fm (Places 𝓤 H A mem run) known-places to-places (and-then ! (load ! (from ! (stop !)) (look ! 62 refl)) (and-then ! (load ! (from ! (stop !)) (look ! 42 refl)) (and-then ! (load ! (from ! (stop !)) (look ! 40 refl)) (and-then ! (load ! (from ! (stop !)) (look ! 6 refl)) (no-more !))))) (λ w.
               use1 W (later (some (λ (k : Unit {0}). ((‵ (flft κt qt) ⊛ ‵ (flft κl ql) ⊛ ‵ ftrue) ⊛ ‵ (Nothing .own k (w ∷ []))) ⊛ raw (ensured 𝓤 H A fl.ended (fl.clauses 𝓤 H A mem run) (κt, (κl, tt)) (xt, (fr, (md, (xl, tt)))) tt k)))) (id⊢ 𝓤 _) $ await ! tt $ pick ! (λ k.
               split ! $ move ! (1 ∷ []) $ use1 W (some (λ (ws : Unit {0} × (Unit {0} × (Unit {0} × (List ℕ × Unit {0})))). ‵ (lasts fl.ended (κt, (κl, tt)) (xt, (fr, (md, (xl, tt)))) ws) ⊛ raw (fact 𝓤 (ws .1 .1 .1 .0 ≡ over (pairs (places ts fr md)) ls)))) (id⊢ 𝓤 _) $ pick ! (λ ws.
               split ! $ move ! (1 ∷ []) $ heard ! (ws .1 .1 .1 .0 ≡ over (pairs (places ts fr md)) ls) (λ filled. fsplit ! $ move ! (1 ∷ []) $ fsplit ! $ move ! (1 ∷ []) $ fsplit ! $ move ! (1 ∷ []) $ fsplit ! $ fsplit ! $ move ! (1 ∷ []) $ feqL ! (λ len.
               move ! (5 ∷ []) $ split ! $ move ! (1 ∷ []) $ peeks ! Nothing (Is Nothing) (shows 𝓤 H A Nothing) k (w ∷ []) (λ is.
               land ! (from ! (stop !)) (init ! 16 refl (nothing-lawful 𝓤 H A W .typed k _ is .0)) $ move ! (1 ∷ []) $ split ! $ move ! (1 ∷ []) $ split ! $
               forget ! 16 refl $ forget ! 14 refl $ forget ! 18 refl $
-              keep ! (10 ∷ 11 ∷ 12 ∷ 13 ∷ 14 ∷ 15 ∷ 16 ∷ 17 ∷ 18 ∷ 19 ∷ 20 ∷ 21 ∷ 22 ∷ 23 ∷ 24 ∷ 25 ∷ 26 ∷ 27 ∷ 28 ∷ 29 ∷ 30 ∷ 31 ∷ 32 ∷ 33 ∷ 34 ∷ 35 ∷ 36 ∷ 37 ∷ 38 ∷ 39 ∷ 40 ∷ 41 ∷ 42 ∷ 43 ∷ 44 ∷ 45 ∷ 46 ∷ 47 ∷ 48 ∷ 49 ∷ 50 ∷ 51 ∷ 52 ∷ 53 ∷ 54 ∷ 55 ∷ 56 ∷ 57 ∷ 58 ∷ 59 ∷ 60 ∷ 61 ∷ 62 ∷ 63 ∷ 64 ∷ 65 ∷ 66 ∷ 67 ∷ 68 ∷ 69 ∷ 2 ∷ 70 ∷ 71 ∷ 72 ∷ 0 ∷ 73 ∷ 9 ∷ 74 ∷ 75 ∷ 76 ∷ 4 ∷ 77 ∷ []) $
+              keep ! (10 ∷ 11 ∷ 12 ∷ 13 ∷ 14 ∷ 15 ∷ 16 ∷ 17 ∷ 18 ∷ 19 ∷ 20 ∷ 21 ∷ 22 ∷ 23 ∷ 24 ∷ 25 ∷ 26 ∷ 27 ∷ 28 ∷ 29 ∷ 30 ∷ 31 ∷ 32 ∷ 33 ∷ 34 ∷ 35 ∷ 36 ∷ 37 ∷ 38 ∷ 39 ∷ 40 ∷ 41 ∷ 42 ∷ 43 ∷ 44 ∷ 45 ∷ 46 ∷ 47 ∷ 48 ∷ 49 ∷ 50 ∷ 51 ∷ 52 ∷ 53 ∷ 54 ∷ 55 ∷ 56 ∷ 57 ∷ 58 ∷ 59 ∷ 60 ∷ 61 ∷ 62 ∷ 63 ∷ 64 ∷ 65 ∷ 66 ∷ 67 ∷ 68 ∷ 69 ∷ 70 ∷ 71 ∷ 72 ∷ 73 ∷ 2 ∷ 74 ∷ 75 ∷ 76 ∷ 0 ∷ 77 ∷ 9 ∷ 78 ∷ 79 ∷ 80 ∷ 4 ∷ 81 ∷ []) $
               fills-lines p e (record { now = ws .1 .1 .1 .0; long = len; is = filled })))))))
 
           fills-errors : (p : Now (pieces ts fr md) ps) → Sq W (Filling (Held (finally P (xp .name) (p .now)) OwnE OwnL OwnN)) (runs C Λ En errors-code (anyQ Arm))
           fills-errors p =
-              assigns ! (addr ! (from ! (fld ! refl (hop ! (look-in ! 48 (sub ! 0 refl (whole !))) (stop !))))) (from ! (stop !)) (init ! 12 refl (tt, tt)) $
-              assigns ! (agg ! (and-then ! (load ! (from ! (stop !)) (look ! 12 refl)) (and-then ! (load ! (from ! (fld ! refl (stop !))) (look-in ! 48 (sub ! 1 refl (whole !)))) (no-more !)))) (from ! (stop !)) (init ! 10 refl (tt, (tt, (record { fits = e-room .0 }, tt)))) $
-              move ! (66 ∷ []) $ use1 W (‵ OwnT ⊛ ‵ OwnT) (shr-slice-copy 𝓤 H A W (named 0) κt u8 .twice xt (st ∷ [])) $ split ! $ move ! (62 ∷ 65 ∷ 0 ∷ 70 ∷ []) $ join ! $ use3 W (raw (Errors 𝓤 H A mem run .pre to-errors)) (asks-errors (are .errors)) $
-              calls-at ! fm (Errors 𝓤 H A mem run) known-errors to-errors (and-then ! (load ! (from ! (stop !)) (look ! 58 refl)) (and-then ! (load ! (from ! (stop !)) (look ! 38 refl)) (and-then ! (load ! (from ! (stop !)) (look ! 36 refl)) (and-then ! (load ! (from ! (stop !)) (look ! 12 refl)) (no-more !))))) (λ w.
+              assigns ! (bin ! (load ! (from ! (fld ! refl (fld ! refl (stop !)))) (look-in ! 42 (sub ! 1 refl (sub ! 2 refl (whole !))))) (lit ! tt) tt) (from ! (stop !)) (init ! 16 refl (tt, tt)) $
+              first ! $ branches ! (load ! (from ! (stop !)) (look ! 16 refl))
+              (λ noted. forget ! 16 refl $ assigns ! (addr ! (from ! (fld ! refl (hop ! (look-in ! 52 (sub ! 0 refl (whole !))) (stop !))))) (from ! (stop !)) (init ! 12 refl (tt, tt)) $
+              assigns ! (agg ! (and-then ! (load ! (from ! (stop !)) (look ! 12 refl)) (and-then ! (load ! (from ! (fld ! refl (stop !))) (look-in ! 52 (sub ! 1 refl (whole !)))) (no-more !)))) (from ! (stop !)) (init ! 10 refl (tt, (tt, (record { fits = e-room .0 }, tt)))) $
+              move ! (70 ∷ []) $ use1 W (‵ OwnT ⊛ ‵ OwnT) (shr-slice-copy 𝓤 H A W (named 0) κt u8 .twice xt (st ∷ [])) $ split ! $ move ! (66 ∷ 69 ∷ 0 ∷ 74 ∷ []) $ join ! $ use3 W (raw (Errors 𝓤 H A mem run .pre to-errors)) (asks-errors (are .errors)) $
+              calls-at-last ! fm (Errors 𝓤 H A mem run) known-errors to-errors (and-then ! (load ! (from ! (stop !)) (look ! 62 refl)) (and-then ! (load ! (from ! (stop !)) (look ! 42 refl)) (and-then ! (load ! (from ! (stop !)) (look ! 40 refl)) (and-then ! (load ! (from ! (stop !)) (look ! 12 refl)) (no-more !))))) (λ w.
               use1 W (later (some (λ (k : ℕ). ((‵ (flft κt qt) ⊛ ‵ (flft κe qe) ⊛ ‵ ftrue) ⊛ ‵ (usize .own k (w ∷ []))) ⊛ raw (ensured 𝓤 H A fe.ended (fe.clauses 𝓤 H A mem run) (κt, (κe, tt)) (xt, (fr, (md, (xe, tt)))) tt k)))) (id⊢ 𝓤 _) $ await ! tt $ pick ! (λ k.
               split ! $ move ! (1 ∷ []) $ use1 W (some (λ (ws : Unit {0} × (Unit {0} × (Unit {0} × (List ErrorRecord × Unit {0})))). ‵ (lasts fe.ended (κt, (κe, tt)) (xt, (fr, (md, (xe, tt)))) ws) ⊛ raw (fact 𝓤 (FilledBy (errors ts fr md) es (ws .1 .1 .1 .0) k)))) (id⊢ 𝓤 _) $ pick ! (λ ws.
               split ! $ move ! (1 ∷ []) $ heard ! (FilledBy (errors ts fr md) es (ws .1 .1 .1 .0) k) (λ filled. fsplit ! $ move ! (1 ∷ []) $ fsplit ! $ move ! (1 ∷ []) $ fsplit ! $ move ! (1 ∷ []) $ fsplit ! $ fsplit ! $ move ! (1 ∷ []) $ feqL ! (λ len.
               move ! (5 ∷ []) $ split ! $ move ! (1 ∷ []) $ peeks ! usize (Is usize) (shows 𝓤 H A usize) k (w ∷ []) (λ is.
-              land ! (from ! (stop !)) (init ! 26 refl (uint-lawful 𝓤 H A W w64 .typed k _ is .0)) $ move ! (1 ∷ []) $ split ! $ move ! (1 ∷ []) $ split ! $
-              forget ! 22 refl $ forget ! 20 refl $ forget ! 28 refl $
-              keep ! (10 ∷ 11 ∷ 12 ∷ 13 ∷ 14 ∷ 15 ∷ 16 ∷ 17 ∷ 18 ∷ 19 ∷ 20 ∷ 21 ∷ 22 ∷ 23 ∷ 24 ∷ 25 ∷ 26 ∷ 27 ∷ 28 ∷ 29 ∷ 30 ∷ 31 ∷ 32 ∷ 33 ∷ 34 ∷ 35 ∷ 36 ∷ 37 ∷ 38 ∷ 39 ∷ 40 ∷ 41 ∷ 42 ∷ 43 ∷ 44 ∷ 45 ∷ 46 ∷ 47 ∷ 48 ∷ 49 ∷ 50 ∷ 51 ∷ 52 ∷ 53 ∷ 54 ∷ 55 ∷ 56 ∷ 57 ∷ 58 ∷ 59 ∷ 60 ∷ 61 ∷ 62 ∷ 63 ∷ 64 ∷ 65 ∷ 66 ∷ 67 ∷ 68 ∷ 69 ∷ 2 ∷ 70 ∷ 71 ∷ 0 ∷ 72 ∷ 73 ∷ 9 ∷ 74 ∷ 75 ∷ 4 ∷ 76 ∷ 77 ∷ []) $
-              fills-places p (record { now = ws .1 .1 .1 .0; long = len; is = filled .list })))))))
+              land-last ! (from ! (stop !)) (init ! 22 refl (uint-lawful 𝓤 H A W w64 .typed k _ is .0)) $ move ! (1 ∷ []) $ split ! $ move ! (1 ∷ []) $ split ! $
+              forget ! 22 refl $ forget ! 20 refl $ forget ! 24 refl $
+              keep ! (10 ∷ 11 ∷ 12 ∷ 13 ∷ 14 ∷ 15 ∷ 16 ∷ 17 ∷ 18 ∷ 19 ∷ 20 ∷ 21 ∷ 22 ∷ 23 ∷ 24 ∷ 25 ∷ 26 ∷ 27 ∷ 28 ∷ 29 ∷ 30 ∷ 31 ∷ 32 ∷ 33 ∷ 34 ∷ 35 ∷ 36 ∷ 37 ∷ 38 ∷ 39 ∷ 40 ∷ 41 ∷ 42 ∷ 43 ∷ 44 ∷ 45 ∷ 46 ∷ 47 ∷ 48 ∷ 49 ∷ 50 ∷ 51 ∷ 52 ∷ 53 ∷ 54 ∷ 55 ∷ 56 ∷ 57 ∷ 58 ∷ 59 ∷ 60 ∷ 61 ∷ 62 ∷ 63 ∷ 64 ∷ 65 ∷ 66 ∷ 67 ∷ 68 ∷ 69 ∷ 70 ∷ 71 ∷ 72 ∷ 73 ∷ 2 ∷ 74 ∷ 75 ∷ 0 ∷ 76 ∷ 77 ∷ 9 ∷ 78 ∷ 79 ∷ 4 ∷ 80 ∷ 81 ∷ []) $
+              exec ! C Λ En places-code (anyQ Arm) $ fills-places p (record { now = ws .1 .1 .1 .0; long = len; is = filled .list }))))))))
+              (λ clean. skips ! $ exec ! C Λ En places-code (anyQ Arm) $ forget ! 16 refl $
+              move ! (73 ∷ []) $ use1 W (‵ (finally E (xe .name) (xe .now))) (gives-up 𝓤 H A W E (named 3) κe xe (se ∷ [])) $
+              keep ! (1 ∷ 2 ∷ 3 ∷ 4 ∷ 5 ∷ 6 ∷ 7 ∷ 8 ∷ 9 ∷ 10 ∷ 11 ∷ 12 ∷ 13 ∷ 14 ∷ 15 ∷ 16 ∷ 17 ∷ 18 ∷ 19 ∷ 20 ∷ 21 ∷ 22 ∷ 23 ∷ 24 ∷ 25 ∷ 26 ∷ 27 ∷ 28 ∷ 29 ∷ 30 ∷ 31 ∷ 32 ∷ 33 ∷ 34 ∷ 35 ∷ 36 ∷ 37 ∷ 38 ∷ 39 ∷ 40 ∷ 41 ∷ 42 ∷ 43 ∷ 44 ∷ 45 ∷ 46 ∷ 47 ∷ 48 ∷ 49 ∷ 50 ∷ 51 ∷ 52 ∷ 53 ∷ 54 ∷ 55 ∷ 56 ∷ 57 ∷ 58 ∷ 59 ∷ 60 ∷ 61 ∷ 62 ∷ 63 ∷ 64 ∷ 65 ∷ 66 ∷ 67 ∷ 68 ∷ 69 ∷ 70 ∷ 71 ∷ 72 ∷ 73 ∷ 0 ∷ 74 ∷ 75 ∷ []) $
+              fills-places p (record { now = es; long = refl; is = Ca.clean ps es ls ns ts ss′ rq d decided zero (fails (not (eqb (d .answer .counts .errors) 0)) clean) }))
 
           fills-pieces : Sq W (Known (‵ (froom Fr′.mir l₁₁ 0)) (‵ (froom Mo′.mir l₁₂ 0)) (Held OwnP OwnE OwnL OwnN)) (runs C Λ En then-code (anyQ Arm))
           fills-pieces =
-              assigns ! (of-opd ! (field-of ! 9 40 l₉ (De.struct .name) decision-parts (decision-vals d) 1 48 Fr′.mir refl refl refl)) (from ! (stop !)) (init ! 36 refl (LL.lawful Fr.the-type Fr′.the-laws 𝓤 H A W .typed fr _ isf .0)) $
-              assigns ! (of-opd ! (field-of ! 9 40 l₉ (De.struct .name) decision-parts (decision-vals d) 2 72 Mo′.mir refl refl refl)) (from ! (stop !)) (init ! 34 refl (TL.lawful Mo.the-type Mo′.the-laws 𝓤 H A W tt .typed md _ ism .0)) $
-              assigns ! (addr ! (from ! (fld ! refl (hop ! (look-in ! 50 (sub ! 0 refl (whole !))) (stop !))))) (from ! (stop !)) (init ! 16 refl (tt, tt)) $
-              assigns ! (agg ! (and-then ! (load ! (from ! (stop !)) (look ! 16 refl)) (and-then ! (load ! (from ! (fld ! refl (stop !))) (look-in ! 50 (sub ! 1 refl (whole !)))) (no-more !)))) (from ! (stop !)) (init ! 14 refl (tt, (tt, (record { fits = p-room .0 }, tt)))) $
-              move ! (66 ∷ []) $ use1 W (‵ OwnT ⊛ ‵ OwnT) (shr-slice-copy 𝓤 H A W (named 0) κt u8 .twice xt (st ∷ [])) $ split ! $ move ! (62 ∷ 64 ∷ 0 ∷ 69 ∷ []) $ join ! $ use3 W (raw (Pieces 𝓤 H A mem run .pre to-pieces)) (asks-pieces (are .pieces)) $
-              calls-at ! fm (Pieces 𝓤 H A mem run) known-pieces to-pieces (and-then ! (load ! (from ! (stop !)) (look ! 58 refl)) (and-then ! (load ! (from ! (stop !)) (look ! 38 refl)) (and-then ! (load ! (from ! (stop !)) (look ! 36 refl)) (and-then ! (load ! (from ! (stop !)) (look ! 16 refl)) (no-more !))))) (λ w.
+              assigns ! (of-opd ! (field-of ! 9 44 l₉ (De.struct .name) decision-parts (decision-vals d) 1 48 Fr′.mir refl refl refl)) (from ! (stop !)) (init ! 40 refl (LL.lawful Fr.the-type Fr′.the-laws 𝓤 H A W .typed fr _ isf .0)) $
+              assigns ! (of-opd ! (field-of ! 9 44 l₉ (De.struct .name) decision-parts (decision-vals d) 2 72 Mo′.mir refl refl refl)) (from ! (stop !)) (init ! 38 refl (TL.lawful Mo.the-type Mo′.the-laws 𝓤 H A W tt .typed md _ ism .0)) $
+              assigns ! (addr ! (from ! (fld ! refl (hop ! (look-in ! 54 (sub ! 0 refl (whole !))) (stop !))))) (from ! (stop !)) (init ! 20 refl (tt, tt)) $
+              assigns ! (agg ! (and-then ! (load ! (from ! (stop !)) (look ! 20 refl)) (and-then ! (load ! (from ! (fld ! refl (stop !))) (look-in ! 54 (sub ! 1 refl (whole !)))) (no-more !)))) (from ! (stop !)) (init ! 18 refl (tt, (tt, (record { fits = p-room .0 }, tt)))) $
+              move ! (70 ∷ []) $ use1 W (‵ OwnT ⊛ ‵ OwnT) (shr-slice-copy 𝓤 H A W (named 0) κt u8 .twice xt (st ∷ [])) $ split ! $ move ! (66 ∷ 68 ∷ 0 ∷ 73 ∷ []) $ join ! $ use3 W (raw (Pieces 𝓤 H A mem run .pre to-pieces)) (asks-pieces (are .pieces)) $
+              calls-at ! fm (Pieces 𝓤 H A mem run) known-pieces to-pieces (and-then ! (load ! (from ! (stop !)) (look ! 62 refl)) (and-then ! (load ! (from ! (stop !)) (look ! 42 refl)) (and-then ! (load ! (from ! (stop !)) (look ! 40 refl)) (and-then ! (load ! (from ! (stop !)) (look ! 20 refl)) (no-more !))))) (λ w.
               use1 W (later (some (λ (k : ℕ). ((‵ (flft κt qt) ⊛ ‵ (flft κp qp) ⊛ ‵ ftrue) ⊛ ‵ (usize .own k (w ∷ []))) ⊛ raw (ensured 𝓤 H A fp.ended (fp.clauses 𝓤 H A mem run) (κt, (κp, tt)) (xt, (fr, (md, (xp, tt)))) tt k)))) (id⊢ 𝓤 _) $ await ! tt $ pick ! (λ k.
               split ! $ move ! (1 ∷ []) $ use1 W (some (λ (ws : Unit {0} × (Unit {0} × (Unit {0} × (List Piece × Unit {0})))). ‵ (lasts fp.ended (κt, (κp, tt)) (xt, (fr, (md, (xp, tt)))) ws) ⊛ raw (fact 𝓤 (FilledBy (pieces ts fr md) ps (ws .1 .1 .1 .0) k)))) (id⊢ 𝓤 _) $ pick ! (λ ws.
               split ! $ move ! (1 ∷ []) $ heard ! (FilledBy (pieces ts fr md) ps (ws .1 .1 .1 .0) k) (λ filled. fsplit ! $ move ! (1 ∷ []) $ fsplit ! $ move ! (1 ∷ []) $ fsplit ! $ move ! (1 ∷ []) $ fsplit ! $ fsplit ! $ move ! (1 ∷ []) $ feqL ! (λ len.
               move ! (5 ∷ []) $ split ! $ move ! (1 ∷ []) $ peeks ! usize (Is usize) (shows 𝓤 H A usize) k (w ∷ []) (λ is.
-              land ! (from ! (stop !)) (init ! 26 refl (uint-lawful 𝓤 H A W w64 .typed k _ is .0)) $ move ! (1 ∷ []) $ split ! $ move ! (1 ∷ []) $ split ! $
-              forget ! 26 refl $ forget ! 24 refl $ forget ! 28 refl $
-              keep ! (10 ∷ 11 ∷ 12 ∷ 13 ∷ 14 ∷ 15 ∷ 16 ∷ 17 ∷ 18 ∷ 19 ∷ 20 ∷ 21 ∷ 22 ∷ 23 ∷ 24 ∷ 25 ∷ 26 ∷ 27 ∷ 28 ∷ 29 ∷ 30 ∷ 31 ∷ 32 ∷ 33 ∷ 34 ∷ 35 ∷ 36 ∷ 37 ∷ 38 ∷ 39 ∷ 40 ∷ 41 ∷ 42 ∷ 43 ∷ 44 ∷ 45 ∷ 46 ∷ 47 ∷ 48 ∷ 49 ∷ 50 ∷ 51 ∷ 52 ∷ 53 ∷ 54 ∷ 55 ∷ 56 ∷ 57 ∷ 58 ∷ 59 ∷ 60 ∷ 61 ∷ 62 ∷ 63 ∷ 64 ∷ 65 ∷ 66 ∷ 67 ∷ 68 ∷ 69 ∷ 2 ∷ 70 ∷ 0 ∷ 71 ∷ 72 ∷ 73 ∷ 9 ∷ 74 ∷ 4 ∷ 75 ∷ 76 ∷ 77 ∷ []) $
+              land ! (from ! (stop !)) (init ! 30 refl (uint-lawful 𝓤 H A W w64 .typed k _ is .0)) $ move ! (1 ∷ []) $ split ! $ move ! (1 ∷ []) $ split ! $
+              forget ! 30 refl $ forget ! 28 refl $ forget ! 32 refl $
+              keep ! (10 ∷ 11 ∷ 12 ∷ 13 ∷ 14 ∷ 15 ∷ 16 ∷ 17 ∷ 18 ∷ 19 ∷ 20 ∷ 21 ∷ 22 ∷ 23 ∷ 24 ∷ 25 ∷ 26 ∷ 27 ∷ 28 ∷ 29 ∷ 30 ∷ 31 ∷ 32 ∷ 33 ∷ 34 ∷ 35 ∷ 36 ∷ 37 ∷ 38 ∷ 39 ∷ 40 ∷ 41 ∷ 42 ∷ 43 ∷ 44 ∷ 45 ∷ 46 ∷ 47 ∷ 48 ∷ 49 ∷ 50 ∷ 51 ∷ 52 ∷ 53 ∷ 54 ∷ 55 ∷ 56 ∷ 57 ∷ 58 ∷ 59 ∷ 60 ∷ 61 ∷ 62 ∷ 63 ∷ 64 ∷ 65 ∷ 66 ∷ 67 ∷ 68 ∷ 69 ∷ 70 ∷ 71 ∷ 72 ∷ 73 ∷ 2 ∷ 74 ∷ 0 ∷ 75 ∷ 76 ∷ 77 ∷ 9 ∷ 78 ∷ 4 ∷ 79 ∷ 80 ∷ 81 ∷ []) $
               fills-errors (record { now = ws .1 .1 .1 .0; long = len; is = filled .list })))))))
 
         arms : Sq W (Locals (‵ (froom Ro′.mir l₈ 0)) (‵ (fat fullShare De′.mir l₉ 0 (dval d))) (‵ (froom An′.mir l₁₀ 0)) (‵ (froom Fr′.mir l₁₁ 0)) (‵ (froom Mo′.mir l₁₂ 0)) (Held OwnP OwnE OwnL OwnN)) (runs C Λ En M′.t-9 (atRet En Post))
         arms =
-            assigns ! (of-opd ! (field-of ! 9 40 l₉ (De.struct .name) decision-parts (decision-vals d) 0 0 An′.mir refl refl refl)) (from ! (stop !)) (init ! 38 refl (LL.lawful An.the-type An′.the-laws 𝓤 H A W .typed (d .answer) _ isa .0)) $
-            assigns ! (bin ! (load ! (from ! (fld ! refl (stop !))) (look-in ! 38 (sub ! 0 refl (whole !)))) (lit ! tt) tt) (from ! (stop !)) (init ! 20 refl (tt, tt)) $
-            first ! $ branches ! (load ! (from ! (stop !)) (look ! 20 refl))
-            (λ zero. forget ! 20 refl $ fills-pieces (holds (eqb (d .answer .number) 0) zero))
-            (λ other. skips ! $ exec ! C Λ En M′.t-12 (atRet En Post) $ forget ! 20 refl $
-            move ! (68 ∷ []) $ use1 W (‵ (finally P (xp .name) (xp .now))) (gives-up 𝓤 H A W P (named 2) κp xp (sp ∷ [])) $
-            move ! (69 ∷ []) $ use1 W (‵ (finally E (xe .name) (xe .now))) (gives-up 𝓤 H A W E (named 3) κe xe (se ∷ [])) $
-            move ! (70 ∷ []) $ use1 W (‵ (finally usize (xl .name) (xl .now))) (gives-up 𝓤 H A W usize (named 4) κl xl (sl ∷ [])) $
-            move ! (71 ∷ []) $ use1 W (‵ (finally usize (xn .name) (xn .now))) (gives-up 𝓤 H A W usize (named 5) κn xn (sn ∷ [])) $
-            keep ! (4 ∷ 5 ∷ 6 ∷ 7 ∷ 8 ∷ 9 ∷ 10 ∷ 11 ∷ 12 ∷ 13 ∷ 14 ∷ 15 ∷ 16 ∷ 17 ∷ 18 ∷ 19 ∷ 20 ∷ 21 ∷ 22 ∷ 23 ∷ 24 ∷ 25 ∷ 26 ∷ 27 ∷ 28 ∷ 29 ∷ 30 ∷ 31 ∷ 32 ∷ 33 ∷ 34 ∷ 35 ∷ 36 ∷ 37 ∷ 38 ∷ 39 ∷ 40 ∷ 41 ∷ 42 ∷ 43 ∷ 44 ∷ 45 ∷ 46 ∷ 47 ∷ 48 ∷ 49 ∷ 50 ∷ 51 ∷ 52 ∷ 53 ∷ 54 ∷ 55 ∷ 56 ∷ 57 ∷ 58 ∷ 59 ∷ 60 ∷ 61 ∷ 62 ∷ 63 ∷ 64 ∷ 65 ∷ 66 ∷ 67 ∷ 68 ∷ 69 ∷ 70 ∷ 71 ∷ 3 ∷ 2 ∷ 1 ∷ 0 ∷ []) $
+            assigns ! (of-opd ! (field-of ! 9 44 l₉ (De.struct .name) decision-parts (decision-vals d) 0 0 An′.mir refl refl refl)) (from ! (stop !)) (init ! 42 refl (LL.lawful An.the-type An′.the-laws 𝓤 H A W .typed (d .answer) _ isa .0)) $
+            assigns ! (bin ! (load ! (from ! (fld ! refl (stop !))) (look-in ! 42 (sub ! 0 refl (whole !)))) (lit ! tt) tt) (from ! (stop !)) (init ! 24 refl (tt, tt)) $
+            first ! $ branches ! (load ! (from ! (stop !)) (look ! 24 refl))
+            (λ zero. forget ! 24 refl $ fills-pieces (holds (eqb (d .answer .number) 0) zero))
+            (λ other. skips ! $ exec ! C Λ En M′.t-12 (atRet En Post) $ forget ! 24 refl $
+            move ! (72 ∷ []) $ use1 W (‵ (finally P (xp .name) (xp .now))) (gives-up 𝓤 H A W P (named 2) κp xp (sp ∷ [])) $
+            move ! (73 ∷ []) $ use1 W (‵ (finally E (xe .name) (xe .now))) (gives-up 𝓤 H A W E (named 3) κe xe (se ∷ [])) $
+            move ! (74 ∷ []) $ use1 W (‵ (finally usize (xl .name) (xl .now))) (gives-up 𝓤 H A W usize (named 4) κl xl (sl ∷ [])) $
+            move ! (75 ∷ []) $ use1 W (‵ (finally usize (xn .name) (xn .now))) (gives-up 𝓤 H A W usize (named 5) κn xn (sn ∷ [])) $
+            keep ! (4 ∷ 5 ∷ 6 ∷ 7 ∷ 8 ∷ 9 ∷ 10 ∷ 11 ∷ 12 ∷ 13 ∷ 14 ∷ 15 ∷ 16 ∷ 17 ∷ 18 ∷ 19 ∷ 20 ∷ 21 ∷ 22 ∷ 23 ∷ 24 ∷ 25 ∷ 26 ∷ 27 ∷ 28 ∷ 29 ∷ 30 ∷ 31 ∷ 32 ∷ 33 ∷ 34 ∷ 35 ∷ 36 ∷ 37 ∷ 38 ∷ 39 ∷ 40 ∷ 41 ∷ 42 ∷ 43 ∷ 44 ∷ 45 ∷ 46 ∷ 47 ∷ 48 ∷ 49 ∷ 50 ∷ 51 ∷ 52 ∷ 53 ∷ 54 ∷ 55 ∷ 56 ∷ 57 ∷ 58 ∷ 59 ∷ 60 ∷ 61 ∷ 62 ∷ 63 ∷ 64 ∷ 65 ∷ 66 ∷ 67 ∷ 68 ∷ 69 ∷ 70 ∷ 71 ∷ 72 ∷ 73 ∷ 74 ∷ 75 ∷ 3 ∷ 2 ∷ 1 ∷ 0 ∷ []) $
             ends d isa ps es ls ns refl refl refl refl (Ca.refused ps es ls ns ts ss′ rq d decided (fails (eqb (d .answer .number) 0) other)))
 
       asks : Sq W (Locals (‵ (fat fullShare Ro′.mir l₈ 0 (LL.val Ro.the-type Ro′.the-laws rooms))) (‵ (froom De′.mir l₉ 0)) (‵ (froom An′.mir l₁₀ 0)) (‵ (froom Fr′.mir l₁₁ 0)) (‵ (froom Mo′.mir l₁₂ 0)) (Held OwnP OwnE OwnL OwnN)) (runs C Λ En M′.t-8 (atRet En Post))
       asks =
-          move ! (66 ∷ 67 ∷ []) $ use1 W (‵ OwnT ⊛ ‵ OwnT) (shr-slice-copy 𝓤 H A W (named 0) κt u8 .twice xt (st ∷ [])) $ split ! $ move ! (2 ∷ []) $ use1 W (‵ OwnS ⊛ ‵ OwnS) (shr-slice-copy 𝓤 H A W (named 1) κs u8 .twice xs (ss ∷ [])) $ split ! $
-          move ! (64 ∷ 65 ∷ 2 ∷ 0 ∷ []) $ join ! $ use3 W (raw (Decide 𝓤 H A mem run .pre to-decide)) asks-decide $
-          calls-at ! fm (Decide 𝓤 H A mem run) known-decide to-decide (and-then ! (load ! (from ! (stop !)) (look ! 59 refl)) (and-then ! (load ! (from ! (stop !)) (look ! 57 refl)) (and-then ! (load ! (from ! (stop !)) (look ! 55 refl)) (and-then ! (load ! (from ! (stop !)) (look ! 45 refl)) (no-more !))))) (λ u.
+          move ! (70 ∷ 71 ∷ []) $ use1 W (‵ OwnT ⊛ ‵ OwnT) (shr-slice-copy 𝓤 H A W (named 0) κt u8 .twice xt (st ∷ [])) $ split ! $ move ! (2 ∷ []) $ use1 W (‵ OwnS ⊛ ‵ OwnS) (shr-slice-copy 𝓤 H A W (named 1) κs u8 .twice xs (ss ∷ [])) $ split ! $
+          move ! (68 ∷ 69 ∷ 2 ∷ 0 ∷ []) $ join ! $ use3 W (raw (Decide 𝓤 H A mem run .pre to-decide)) asks-decide $
+          calls-at ! fm (Decide 𝓤 H A mem run) known-decide to-decide (and-then ! (load ! (from ! (stop !)) (look ! 63 refl)) (and-then ! (load ! (from ! (stop !)) (look ! 61 refl)) (and-then ! (load ! (from ! (stop !)) (look ! 59 refl)) (and-then ! (load ! (from ! (stop !)) (look ! 49 refl)) (no-more !))))) (λ u.
           use1 W (later (some (λ (d : Decision). ((‵ (flft κt qt) ⊛ ‵ (flft κs qs) ⊛ ‵ ftrue) ⊛ ‵ (De.the-row .own d (u ∷ []))) ⊛ raw (ensured 𝓤 H A dc.ended (dc.clauses 𝓤 H A mem run) (κt, (κs, tt)) (xt, (xs, (rq, (rooms, tt)))) tt d)))) (id⊢ 𝓤 _) $ await ! tt $ pick ! (λ d.
           split ! $ move ! (1 ∷ []) $ use1 W (raw (fact 𝓤 (Decided ts ss′ rq rooms d))) (said-decide d) $ heard ! (Decided ts ss′ rq rooms d) (λ decided.
           split ! $ move ! (1 ∷ []) $ peeks ! De.the-row (Is De.the-row) (shows 𝓤 H A De.the-row) d (u ∷ []) (λ is.
-          land ! (from ! (stop !)) (init ! 44 refl (LL.lawful De.the-type De′.the-laws 𝓤 H A W .typed d _ is .0)) $
-          rewrite ! 44 (λ (v : Val). ‵ (fat fullShare De′.mir l₉ 0 v)) (ap only (LL.tells De.the-type De′.the-laws d _ is)) refl $
-          move ! (1 ∷ []) $ split ! $ move ! (1 ∷ []) $ split ! $ forget ! 48 refl $
-          keep ! (6 ∷ 7 ∷ 8 ∷ 9 ∷ 10 ∷ 11 ∷ 12 ∷ 13 ∷ 14 ∷ 15 ∷ 16 ∷ 17 ∷ 18 ∷ 19 ∷ 20 ∷ 21 ∷ 22 ∷ 23 ∷ 24 ∷ 25 ∷ 26 ∷ 27 ∷ 28 ∷ 29 ∷ 30 ∷ 31 ∷ 32 ∷ 33 ∷ 34 ∷ 35 ∷ 36 ∷ 37 ∷ 38 ∷ 39 ∷ 40 ∷ 41 ∷ 42 ∷ 43 ∷ 44 ∷ 45 ∷ 46 ∷ 47 ∷ 48 ∷ 49 ∷ 50 ∷ 51 ∷ 52 ∷ 53 ∷ 54 ∷ 55 ∷ 56 ∷ 57 ∷ 58 ∷ 59 ∷ 60 ∷ 61 ∷ 62 ∷ 63 ∷ 64 ∷ 65 ∷ 2 ∷ 0 ∷ 66 ∷ 67 ∷ 68 ∷ 69 ∷ 5 ∷ 4 ∷ 70 ∷ 71 ∷ 72 ∷ 73 ∷ []) $
+          land ! (from ! (stop !)) (init ! 48 refl (LL.lawful De.the-type De′.the-laws 𝓤 H A W .typed d _ is .0)) $
+          rewrite ! 48 (λ (v : Val). ‵ (fat fullShare De′.mir l₉ 0 v)) (ap only (LL.tells De.the-type De′.the-laws d _ is)) refl $
+          move ! (1 ∷ []) $ split ! $ move ! (1 ∷ []) $ split ! $ forget ! 52 refl $
+          keep ! (6 ∷ 7 ∷ 8 ∷ 9 ∷ 10 ∷ 11 ∷ 12 ∷ 13 ∷ 14 ∷ 15 ∷ 16 ∷ 17 ∷ 18 ∷ 19 ∷ 20 ∷ 21 ∷ 22 ∷ 23 ∷ 24 ∷ 25 ∷ 26 ∷ 27 ∷ 28 ∷ 29 ∷ 30 ∷ 31 ∷ 32 ∷ 33 ∷ 34 ∷ 35 ∷ 36 ∷ 37 ∷ 38 ∷ 39 ∷ 40 ∷ 41 ∷ 42 ∷ 43 ∷ 44 ∷ 45 ∷ 46 ∷ 47 ∷ 48 ∷ 49 ∷ 50 ∷ 51 ∷ 52 ∷ 53 ∷ 54 ∷ 55 ∷ 56 ∷ 57 ∷ 58 ∷ 59 ∷ 60 ∷ 61 ∷ 62 ∷ 63 ∷ 64 ∷ 65 ∷ 66 ∷ 67 ∷ 68 ∷ 69 ∷ 2 ∷ 0 ∷ 70 ∷ 71 ∷ 72 ∷ 73 ∷ 5 ∷ 4 ∷ 74 ∷ 75 ∷ 76 ∷ 77 ∷ []) $
           arms d decided (subst (Is De.the-row d) (LL.tells De.the-type De′.the-laws d _ is) is)))))
 
       sizes : Sq W (Locals (‵ (froom Ro′.mir l₈ 0)) (‵ (froom De′.mir l₉ 0)) (‵ (froom An′.mir l₁₀ 0)) (‵ (froom Fr′.mir l₁₁ 0)) (‵ (froom Mo′.mir l₁₂ 0)) (Held OwnP OwnE OwnL OwnN)) (runs C Λ En M′.t-1 (atRet En Post))
       sizes =
-          assigns ! (of-opd ! (load ! (from ! (fld ! refl (stop !))) (look-in ! 50 (sub ! 1 refl (whole !))))) (from ! (stop !)) (init ! 32 refl (tt, record { fits = p-room .0 })) $
-          assigns ! (of-opd ! (load ! (from ! (fld ! refl (stop !))) (look-in ! 48 (sub ! 1 refl (whole !))))) (from ! (stop !)) (init ! 30 refl (tt, record { fits = e-room .0 })) $
-          assigns ! (of-opd ! (load ! (from ! (fld ! refl (stop !))) (look-in ! 46 (sub ! 1 refl (whole !))))) (from ! (stop !)) (init ! 28 refl (tt, record { fits = l-room .0 })) $
-          assigns ! (bin ! (load ! (from ! (stop !)) (look ! 28 refl)) (lit ! tt) (lit< tt)) (from ! (stop !)) (init ! 26 refl (tt, record { fits = half-fits (l-room .0) })) $
-          assigns ! (of-opd ! (load ! (from ! (fld ! refl (stop !))) (look-in ! 44 (sub ! 1 refl (whole !))))) (from ! (stop !)) (init ! 24 refl (tt, record { fits = n-room .0 })) $
-          assigns ! (bin ! (load ! (from ! (stop !)) (look ! 24 refl)) (lit ! tt) (lit< tt)) (from ! (stop !)) (init ! 22 refl (tt, record { fits = half-fits (n-room .0) })) $
-          assigns ! (agg ! (and-then ! (load ! (from ! (stop !)) (look ! 32 refl)) (and-then ! (load ! (from ! (stop !)) (look ! 30 refl)) (and-then ! (load ! (from ! (stop !)) (look ! 26 refl)) (and-then ! (load ! (from ! (stop !)) (look ! 22 refl)) (no-more !)))))) (from ! (stop !)) (init ! 42 refl (LL.lawful Ro.the-type Ro′.the-laws 𝓤 H A W .typed rooms _ is-rooms .0)) $
-          forget ! 22 refl $ forget ! 24 refl $ forget ! 26 refl $ forget ! 28 refl $ forget ! 30 refl $ forget ! 32 refl $
+          assigns ! (of-opd ! (load ! (from ! (fld ! refl (stop !))) (look-in ! 54 (sub ! 1 refl (whole !))))) (from ! (stop !)) (init ! 36 refl (tt, record { fits = p-room .0 })) $
+          assigns ! (of-opd ! (load ! (from ! (fld ! refl (stop !))) (look-in ! 52 (sub ! 1 refl (whole !))))) (from ! (stop !)) (init ! 34 refl (tt, record { fits = e-room .0 })) $
+          assigns ! (of-opd ! (load ! (from ! (fld ! refl (stop !))) (look-in ! 50 (sub ! 1 refl (whole !))))) (from ! (stop !)) (init ! 32 refl (tt, record { fits = l-room .0 })) $
+          assigns ! (bin ! (load ! (from ! (stop !)) (look ! 32 refl)) (lit ! tt) (lit< tt)) (from ! (stop !)) (init ! 30 refl (tt, record { fits = half-fits (l-room .0) })) $
+          assigns ! (of-opd ! (load ! (from ! (fld ! refl (stop !))) (look-in ! 48 (sub ! 1 refl (whole !))))) (from ! (stop !)) (init ! 28 refl (tt, record { fits = n-room .0 })) $
+          assigns ! (bin ! (load ! (from ! (stop !)) (look ! 28 refl)) (lit ! tt) (lit< tt)) (from ! (stop !)) (init ! 26 refl (tt, record { fits = half-fits (n-room .0) })) $
+          assigns ! (agg ! (and-then ! (load ! (from ! (stop !)) (look ! 36 refl)) (and-then ! (load ! (from ! (stop !)) (look ! 34 refl)) (and-then ! (load ! (from ! (stop !)) (look ! 30 refl)) (and-then ! (load ! (from ! (stop !)) (look ! 26 refl)) (no-more !)))))) (from ! (stop !)) (init ! 46 refl (LL.lawful Ro.the-type Ro′.the-laws 𝓤 H A W .typed rooms _ is-rooms .0)) $
+          forget ! 26 refl $ forget ! 28 refl $ forget ! 30 refl $ forget ! 32 refl $ forget ! 34 refl $ forget ! 36 refl $
           asks
 
     walk : ent 𝓤 (onEntry 𝓤 H A f.signature (κt, (κs, (κp, (κe, (κl, (κn, tt)))))) (qt, (qs, (qp, (qe, (ql, (qn, tt)))))) a vals) (WpFn 𝓤 H C Λ code.function (st ∷ ss ∷ vq ∷ sp ∷ se ∷ sl ∷ sn ∷ []) Post)
@@ -520,12 +527,12 @@ module _ {M : Type 1} (𝓤 : URA M) (H : Heap 𝓤) (A : Atoms 𝓤) (W : Given
         qed W ((‵ (flft κt qt) ⊛ ‵ (flft κs qs) ⊛ ‵ (flft κp qp) ⊛ ‵ (flft κe qe) ⊛ ‵ (flft κl ql) ⊛ ‵ (flft κn qn) ⊛ ‵ ftrue)
         ∷ ‵ (owns (ShrSlice (named 0) κt u8 ∷ ShrSlice (named 1) κs u8 ∷ Rq.the-row ∷ MutSlice (named 2) κp P ∷ MutSlice (named 3) κe E ∷ MutSlice (named 4) κl usize ∷ MutSlice (named 5) κn usize ∷ []) a vals) ∷ []) ∵
         enter ! C Λ code.function (st ∷ ss ∷ vq ∷ sp ∷ se ∷ sl ∷ sn ∷ []) _ $
-        alloc1 ! (λ l₀. alloc1 ! (λ l₁. alloc1 ! (λ l₂. alloc1 ! (λ l₃. alloc1 ! (λ l₄. alloc1 ! (λ l₅. alloc1 ! (λ l₆. alloc1 ! (λ l₇. alloc1 ! (λ l₈. alloc1 ! (λ l₉. alloc1 ! (λ l₁₀. alloc1 ! (λ l₁₁. alloc1 ! (λ l₁₂. alloc1 ! (λ l₁₃. alloc1 ! (λ l₁₄. alloc1 ! (λ l₁₅. alloc1 ! (λ l₁₆. alloc1 ! (λ l₁₇. alloc1 ! (λ l₁₈. alloc1 ! (λ l₁₉. alloc1 ! (λ l₂₀. alloc1 ! (λ l₂₁. alloc1 ! (λ l₂₂. alloc1 ! (λ l₂₃. alloc1 ! (λ l₂₄. alloc1 ! (λ l₂₅. alloc1 ! (λ l₂₆. alloc1 ! (λ l₂₇. alloc1 ! (λ l₂₈. alloc1 ! (λ l₂₉. alloc0 ! $ params1 ! $
-        pass1 ! (init ! 56 refl (tt, (tt, (record { fits = t-room .0 }, tt)))) $ pass1 ! (init ! 54 refl (tt, (tt, (record { fits = s-room .0 }, tt)))) $ pass1 ! (init ! 52 refl (LL.lawful Rq.the-type Rq′.the-laws 𝓤 H A W .typed rq _ isq .0)) $ pass1 ! (init ! 50 refl (tt, (tt, (record { fits = p-room .0 }, tt)))) $ pass1 ! (init ! 48 refl (tt, (tt, (record { fits = e-room .0 }, tt)))) $ pass1 ! (init ! 46 refl (tt, (tt, (record { fits = l-room .0 }, tt)))) $ pass1 ! (init ! 44 refl (tt, (tt, (record { fits = n-room .0 }, tt)))) $ pass0 ! $
-        move ! (60 ∷ 61 ∷ []) $ split ! $ move ! (1 ∷ []) $ split ! $ move ! (1 ∷ []) $ split ! $ move ! (1 ∷ []) $ split ! $ move ! (1 ∷ []) $ split ! $ move ! (1 ∷ []) $ split ! $ move ! (1 ∷ []) $
+        alloc1 ! (λ l₀. alloc1 ! (λ l₁. alloc1 ! (λ l₂. alloc1 ! (λ l₃. alloc1 ! (λ l₄. alloc1 ! (λ l₅. alloc1 ! (λ l₆. alloc1 ! (λ l₇. alloc1 ! (λ l₈. alloc1 ! (λ l₉. alloc1 ! (λ l₁₀. alloc1 ! (λ l₁₁. alloc1 ! (λ l₁₂. alloc1 ! (λ l₁₃. alloc1 ! (λ l₁₄. alloc1 ! (λ l₁₅. alloc1 ! (λ l₁₆. alloc1 ! (λ l₁₇. alloc1 ! (λ l₁₈. alloc1 ! (λ l₁₉. alloc1 ! (λ l₂₀. alloc1 ! (λ l₂₁. alloc1 ! (λ l₂₂. alloc1 ! (λ l₂₃. alloc1 ! (λ l₂₄. alloc1 ! (λ l₂₅. alloc1 ! (λ l₂₆. alloc1 ! (λ l₂₇. alloc1 ! (λ l₂₈. alloc1 ! (λ l₂₉. alloc1 ! (λ l₃₀. alloc1 ! (λ l₃₁. alloc0 ! $ params1 ! $
+        pass1 ! (init ! 60 refl (tt, (tt, (record { fits = t-room .0 }, tt)))) $ pass1 ! (init ! 58 refl (tt, (tt, (record { fits = s-room .0 }, tt)))) $ pass1 ! (init ! 56 refl (LL.lawful Rq.the-type Rq′.the-laws 𝓤 H A W .typed rq _ isq .0)) $ pass1 ! (init ! 54 refl (tt, (tt, (record { fits = p-room .0 }, tt)))) $ pass1 ! (init ! 52 refl (tt, (tt, (record { fits = e-room .0 }, tt)))) $ pass1 ! (init ! 50 refl (tt, (tt, (record { fits = l-room .0 }, tt)))) $ pass1 ! (init ! 48 refl (tt, (tt, (record { fits = n-room .0 }, tt)))) $ pass0 ! $
+        move ! (64 ∷ 65 ∷ []) $ split ! $ move ! (1 ∷ []) $ split ! $ move ! (1 ∷ []) $ split ! $ move ! (1 ∷ []) $ split ! $ move ! (1 ∷ []) $ split ! $ move ! (1 ∷ []) $ split ! $ move ! (1 ∷ []) $
         move ! (7 ∷ []) $ fsplit ! $ move ! (1 ∷ []) $ fsplit ! $ move ! (1 ∷ []) $ fsplit ! $ move ! (1 ∷ []) $ fsplit ! $ move ! (1 ∷ []) $ fsplit ! $ move ! (1 ∷ []) $ fsplit ! $ move ! (1 ∷ []) $ fsplit ! $ move ! (1 ∷ []) $
-        keep ! (15 ∷ 16 ∷ 17 ∷ 18 ∷ 19 ∷ 20 ∷ 21 ∷ 22 ∷ 23 ∷ 24 ∷ 25 ∷ 26 ∷ 27 ∷ 28 ∷ 29 ∷ 30 ∷ 31 ∷ 32 ∷ 33 ∷ 34 ∷ 35 ∷ 36 ∷ 37 ∷ 38 ∷ 39 ∷ 40 ∷ 41 ∷ 42 ∷ 43 ∷ 44 ∷ 45 ∷ 46 ∷ 47 ∷ 48 ∷ 49 ∷ 50 ∷ 51 ∷ 52 ∷ 53 ∷ 54 ∷ 55 ∷ 56 ∷ 57 ∷ 58 ∷ 59 ∷ 60 ∷ 61 ∷ 62 ∷ 63 ∷ 64 ∷ 65 ∷ 66 ∷ 67 ∷ 68 ∷ 69 ∷ 70 ∷ 71 ∷ 72 ∷ 73 ∷ 74 ∷ 14 ∷ 13 ∷ 12 ∷ 11 ∷ 10 ∷ 9 ∷ 7 ∷ 6 ∷ 4 ∷ 3 ∷ 2 ∷ 1 ∷ []) $
-        sizes l₀ l₁ l₂ l₃ l₄ l₅ l₆ l₇ l₈ l₉ l₁₀ l₁₁ l₁₂ l₁₃ l₁₄ l₁₅ l₁₆ l₁₇ l₁₈ l₁₉ l₂₀ l₂₁ l₂₂ l₂₃ l₂₄ l₂₅ l₂₆ l₂₇ l₂₈ l₂₉))))))))))))))))))))))))))))))
+        keep ! (15 ∷ 16 ∷ 17 ∷ 18 ∷ 19 ∷ 20 ∷ 21 ∷ 22 ∷ 23 ∷ 24 ∷ 25 ∷ 26 ∷ 27 ∷ 28 ∷ 29 ∷ 30 ∷ 31 ∷ 32 ∷ 33 ∷ 34 ∷ 35 ∷ 36 ∷ 37 ∷ 38 ∷ 39 ∷ 40 ∷ 41 ∷ 42 ∷ 43 ∷ 44 ∷ 45 ∷ 46 ∷ 47 ∷ 48 ∷ 49 ∷ 50 ∷ 51 ∷ 52 ∷ 53 ∷ 54 ∷ 55 ∷ 56 ∷ 57 ∷ 58 ∷ 59 ∷ 60 ∷ 61 ∷ 62 ∷ 63 ∷ 64 ∷ 65 ∷ 66 ∷ 67 ∷ 68 ∷ 69 ∷ 70 ∷ 71 ∷ 72 ∷ 73 ∷ 74 ∷ 75 ∷ 76 ∷ 77 ∷ 78 ∷ 14 ∷ 13 ∷ 12 ∷ 11 ∷ 10 ∷ 9 ∷ 7 ∷ 6 ∷ 4 ∷ 3 ∷ 2 ∷ 1 ∷ []) $
+        sizes l₀ l₁ l₂ l₃ l₄ l₅ l₆ l₇ l₈ l₉ l₁₀ l₁₁ l₁₂ l₁₃ l₁₄ l₁₅ l₁₆ l₁₇ l₁₈ l₁₉ l₂₀ l₂₁ l₂₂ l₂₃ l₂₄ l₂₅ l₂₆ l₂₇ l₂₈ l₂₉ l₃₀ l₃₁))))))))))))))))))))))))))))))))
 
 module _ {M : Type 1} (𝓤 : URA M) (H : Heap 𝓤) (A : Atoms 𝓤) (W : Given 𝓤 H A) (mem : Memory → SProp 𝓤) (run : Routine → Fun 𝓤) (𝓣 : Tables 𝓤 H) (known-decide : Triple 𝓤 (𝓣 .C #answer·decide·decide) (Decide 𝓤 H A mem run))
     (known-pieces : Triple 𝓤 (𝓣 .C #reader·lists·fill-pieces) (Pieces 𝓤 H A mem run)) (known-errors : Triple 𝓤 (𝓣 .C #reader·lists·fill-errors) (Errors 𝓤 H A mem run))

@@ -1,0 +1,154 @@
+-- Bytes tell characters: an ASCII character, a digit, an align, a word. Rests on `scan`'s laws of its leaves and `unicode`'s of characters.
+use Prim.Native.Nat.{ℕ, zero, suc, _+_, _≤_, _<_}
+use mathlib.Core.Path.{_≡_, refl, sym, _∙_, ap}
+use mathlib.Core.Bool.{Bool, true, false, true≢false}
+use mathlib.Core.List.{List, []}
+use native.Mathlib.Omega.{arith}
+use borrow.Author.Tests.{eqb-true, eq-eqb, ne-eqb, ltb-true, ltb-false}
+use lib.Dec.{eqb, ltb}
+use lib.ListN.{length, getD, List·getD-eq-default}
+use Rattle.unicode.specs.Choice.{pick, both, within}
+use Rattle.unicode.specs.ChoiceLaws.{not-so, within-low, within-high}
+use Rattle.unicode.specs.Utf8.{peekAt}
+use Rattle.unicode.specs.Chars.{takeWhile, runEnd}
+use Rattle.unicode.specs.CharLaws.{Peeked, peeked, ended, past-end, ascii-char, char-ascii, run-stop, run-end}
+use Rattle.unicode.specs.Ascii.{asciiStart}
+use Rattle.unicode.specs.AsciiLaws.{ascii-start}
+use Rattle.unicode.specs.Questions.{isContinue}
+use Rattle.unicode.specs.declared.Seen.{Seen}
+use Rattle.unicode.specs.declared.Seen.the-variants.{Char, End}
+use Rattle.frame.specs.Places.{place, rangeOf}
+use Rattle.scan.specs.Characters.{isAt, consumed}
+use Rattle.scan.specs.Words.{isDigit, digitsAt, numberFrom, numberRead, wordEnd, isUnderscore, wordRead}
+use Rattle.scan.specs.ScanLaws.{is-at-byte, is-at-end}
+use Rattle.scan.specs.declared.Fault.{Fault}
+use Rattle.scan.specs.declared.Number.{Number}
+use Rattle.placeholder.specs.Parts.{isAlign}
+use Rattle.quick.specs.PartsTold.{Room, alignByte}
+
+-- a digit is between `0` and `9`
+pub digit-range : {b : ℕ} → isDigit b ≡ true → (0x30 ≤ b) × (b ≤ 0x39)
+unfolding isDigit
+digit-range y = (within-low 0x30 0x39 y, within-high 0x30 0x39 y)
+
+module _ (t : List ℕ) (i : ℕ) where
+  -- a byte that is not 0 is within the text
+  pub byte-in : 0 < getD t i 0 → i < length t
+  byte-in p = go (ltb i (length t)) refl
+    where
+      go : (x : Bool) → ltb i (length t) ≡ x → i < length t
+      go true e = ltb-true i (length t) e
+      go false e = absurd (omega (arith, List·getD-eq-default t 0 (ltb-false i (length t) e)))
+
+  module _ (c : ℕ) (p : 0 < c) (l : c < 0x80) where
+    -- an ASCII character is at a place exactly where its byte is
+    pub at-byte : isAt t (place i) c ≡ eqb (getD t i 0) c
+    at-byte = go (ltb i (length t)) refl
+      where
+        go : (x : Bool) → ltb i (length t) ≡ x → isAt t (place i) c ≡ eqb (getD t i 0) c
+        go true e = is-at-byte t (place i) c l (ltb-true i (length t) e)
+        go false e =
+            let h = ltb-false i (length t) e in
+            is-at-end t (place i) c h ∙ sym (ne-eqb (getD t i 0) c (λ q. omega (arith, List·getD-eq-default t 0 h)))
+
+    -- and there it is passed
+    pub has : getD t i 0 ≡ c → consumed t (place i) c ≡ record { ate = true; at = place (i + 1) }
+    unfolding consumed pick
+    has e = rw (at-byte, eq-eqb (getD t i 0) c e)
+
+    -- and elsewhere not
+    pub lacks : (getD t i 0 ≡ c → ⊥) → consumed t (place i) c ≡ record { ate = false; at = place i }
+    unfolding consumed pick
+    lacks n = rw (at-byte, ne-eqb (getD t i 0) c n)
+
+  -- an align is told by its byte
+  pub align-byte : isAlign t (place i) ≡ alignByte (getD t i 0)
+  unfolding isAlign alignByte
+  align-byte =
+      rw (
+        at-byte 0x3C (omega arith) (omega arith),
+        at-byte 0x3E (omega arith) (omega arith),
+        at-byte 0x5E (omega arith) (omega arith),
+      )
+
+  -- a byte that is a digit is a character of its own
+  pub digit-seen : isDigit (getD t i 0) ≡ true → Peeked t i (getD t i 0) 1
+  digit-seen y =
+      let r = digit-range y in
+      peeked t i (ascii-char t i (byte-in (omega arith)) (omega arith))
+
+  -- where the byte is no digit, no digit stands
+  pub no-digit : isDigit (getD t i 0) ≡ false → (digitsAt t (place i) ≡ []) × (runEnd isDigit t i ≡ i)
+  unfolding digitsAt takeWhile pick
+  no-digit n = go (peekAt t i) refl
+    where
+      go : (s : Seen) → peekAt t i ≡ s → (digitsAt t (place i) ≡ []) × (runEnd isDigit t i ≡ i)
+      go End e = (simp (ended t i e), run-end isDigit t i e)
+      go (Char c w) e = (simp (p .list, z), run-stop isDigit p z)
+        where
+          p : Peeked t i c w
+          p = peeked t i e
+
+          z : isDigit c ≡ false
+          z =
+              not-so (isDigit c)
+              (λ y. true≢false (sym y ∙ ap isDigit (sym (char-ascii t i e (omega (arith, digit-range y)) .0)) ∙ n))
+
+  -- nor a number
+  pub no-number : isDigit (getD t i 0) ≡ false →
+      numberRead t (place i) ≡ record { number = Number.Nothing; digits = rangeOf (place i) (place i); fault = Fault.Clean }
+  unfolding numberRead numberFrom pick
+  no-number n = rw (no-digit n .1, eq-eqb i i refl)
+
+module _ (t : List ℕ) (at end : ℕ) (e : end ≡ wordEnd t (place at) .0) (n : getD t at 0 ≡ 0x5F → end ≡ at + 1 → ⊥) where
+  -- a word that is not `_`
+  pub word-plain : wordRead t (place at) ≡ record { word = rangeOf (place at) (place end); fault = Fault.Clean }
+  unfolding wordRead isUnderscore pick
+  word-plain = rw (← e, at-byte t at 0x5F (omega arith) (omega arith), none)
+    where
+      none : both (eqb (getD t at 0) 0x5F) (eqb end (at + 1)) ≡ false
+      none = go (eqb (getD t at 0) 0x5F) refl (eqb end (at + 1)) refl
+        where
+          go : (x : Bool) → eqb (getD t at 0) 0x5F ≡ x → (y : Bool) → eqb end (at + 1) ≡ y → both x y ≡ false
+          go false p y q = refl
+          go true p false q = refl
+          go true p true q = absurd (n (eqb-true (getD t at 0) 0x5F p) (eqb-true end (at + 1) q))
+
+module _ {t : List ℕ} {at : ℕ} where
+  -- a byte that is not 0 is at a place within the text
+  pub room-at : {c : ℕ} → length t ≤ 65535 → getD t at 0 ≡ c → 0 < c → Room t at
+  room-at r e p = let h = byte-in t at (omega arith) in record { within = omega arith; small = r }
+
+  -- and so is the place after it
+  pub room-past : {c : ℕ} → Room t at → getD t at 0 ≡ c → 0 < c → Room t (at + 1)
+  room-past r e p = let h = byte-in t at (omega arith) in record { within = omega arith; small = r .small }
+
+-- 0 starts no word
+no-start : asciiStart 0 ≡ false
+unfolding asciiStart within
+no-start = refl
+
+-- what starts a word is not 0
+start-in : (b : ℕ) → asciiStart b ≡ true → 0 < b
+start-in zero y = absurd (true≢false (sym y ∙ no-start))
+start-in (suc k) y = omega arith
+
+module _ (t : List ℕ) (at : ℕ) {b : ℕ} (e : b ≡ getD t at 0) (l : b < 0x80) where
+  -- an ASCII start begins a word
+  pub word-start : asciiStart b ≡ true → wordEnd t (place at) .0 ≡ runEnd isContinue t (at + 1)
+  unfolding wordEnd pick
+  word-start y =
+      let z : asciiStart (getD t at 0) ≡ true = rw e at y in
+      let h = start-in (getD t at 0) z in
+      rw (ascii-char t at (byte-in t at h) (omega arith), ascii-start (getD t at 0) (omega arith), z)
+
+  -- and no other ASCII character does
+  pub word-none : asciiStart b ≡ false → wordEnd t (place at) .0 ≡ at
+  unfolding wordEnd pick
+  word-none y = go (ltb at (length t)) refl
+    where
+      go : (x : Bool) → ltb at (length t) ≡ x → wordEnd t (place at) .0 ≡ at
+      go true q =
+          let z : asciiStart (getD t at 0) ≡ false = rw e at y in
+          rw (ascii-char t at (ltb-true at (length t) q) (omega arith), ascii-start (getD t at 0) (omega arith), z)
+      go false q = rw (past-end t at (ltb-false at (length t) q))

@@ -1,0 +1,6 @@
+-- Laws that the proofs of `quick` share.
+pub mod Bytes
+pub mod Numbers
+pub mod Parts
+pub mod Specs
+pub mod Wholes

@@ -1,0 +1,294 @@
+-- What is told of each part is what is read, from the bytes at its place. Rests on Bytes and on the definitions of `scan` and `placeholder`.
+use Prim.Native.Nat.{ℕ, _+_, _≤_}
+use mathlib.Core.Path.{_≡_, refl, sym, _∙_}
+use mathlib.Core.Bool.{Bool, true, false, true≢false, not}
+use mathlib.Core.List.{List}
+use native.Mathlib.Omega.{arith}
+use borrow.Author.Tests.{eqb-true, eqb-false, ltb-true, ltb-false, eq-eqb, ne-eqb, not-true}
+use lib.Dec.{eqb, ltb}
+use lib.ListN.{length, getD}
+use Rattle.unicode.specs.Choice.{pick}
+use Rattle.unicode.specs.ChoiceLaws.{pick-elim}
+use Rattle.unicode.specs.Utf8.{peekAt}
+use Rattle.unicode.specs.CharLaws.{peeked}
+use Rattle.unicode.specs.declared.Seen.the-variants.{Char, End}
+use Rattle.frame.specs.Places.{place, rangeOf}
+use Rattle.scan.specs.Words.{isDigit, wordEnd, wordRead}
+use Rattle.scan.specs.Counts.{isEmpty, counted, numberCount, nameCount, countRead}
+use Rattle.scan.specs.ScanLaws.{word-on, word-in}
+use Rattle.scan.specs.declared.Count.{Count}
+use Rattle.scan.specs.declared.CountRead.{CountRead}
+use Rattle.scan.specs.declared.Fault.{Fault}
+use Rattle.placeholder.specs.Places.{isR, wordPlace, placeRead}
+use Rattle.placeholder.specs.Parts.{fillRead, afterDot, precisionRead}
+use Rattle.placeholder.specs.Types.{hexType, isHexOrHash, debugType, wordType, typeRead}
+use Rattle.placeholder.specs.declared.MaybeSpan.{MaybeSpan}
+use Rattle.quick.specs.declared.Part.{Part}
+use Rattle.quick.specs.declared.Kind.{Kind}
+use Rattle.quick.specs.Tellings.{foundOf, countOf, countSpan, fillOf, kindSpan, afterStar}
+use Rattle.quick.specs.PartsTold.{Known, endsByte, alignByte, NumberTold, PlaceTold, FillTold, CountTold, CountGiven, PrecisionTold, KindTold}
+use Rattle.quick.proofs.Bytes.{byte-in, at-byte, has, lacks, align-byte, no-number, word-plain}
+
+-- a part that is not told
+abbrev pub unknown : ℕ → Part
+unknown i = record { kind = 9; value = 0; end = i }
+
+-- nothing stands
+abbrev pub none : ℕ → Part
+none i = record { kind = 0; value = 0; end = i }
+
+-- a word that is not `r`
+not-r : (t : List ℕ) (at end : ℕ) → (end ≡ at + 1 → getD t at 0 ≡ 0x72 → ⊥) → isR t (rangeOf (place at) (place end)) ≡ false
+unfolding isR pick
+not-r t at end n = go (eqb (getD t at 0) 0x72) refl
+  where
+    go : (x : Bool) → eqb (getD t at 0) 0x72 ≡ x → isR t (rangeOf (place at) (place end)) ≡ false
+    go true y =
+        let b = eqb-true (getD t at 0) 0x72 y in
+        rw (has t at 0x72 (omega arith) (omega arith) b, ne-eqb (at + 1) end (λ q. n (sym q) b))
+    go false y = rw (lacks t at 0x72 (omega arith) (omega arith) (eqb-false (getD t at 0) 0x72 y))
+
+-- a sign of a type, after which a spec is at its end
+abbrev pub signOf : List ℕ → ℕ → Kind
+signOf t at = record { ok = endsByte (getD t (at + 1) 0); word = false; end = at + 1 }
+
+-- after such a sign no other stands
+ends-not : {b : ℕ} (c : ℕ) → endsByte b ≡ true → (c ≡ 0x7D → ⊥) → (c ≡ 0x20 → ⊥) → b ≡ c → ⊥
+unfolding endsByte pick
+ends-not {b} c y m n e = true≢false (sym y ∙ rw (e, ne-eqb c 0x7D m, ne-eqb c 0x20 n))
+
+-- a span where something stands, by either test
+span-by : (at end : ℕ) (s : MaybeSpan) → at ≤ end → pick (eqb at end) MaybeSpan.Absent s ≡ pick (ltb at end) s MaybeSpan.Absent
+unfolding pick
+span-by at end s l = go (ltb at end) refl
+  where
+    go : (x : Bool) → ltb at end ≡ x → pick (eqb at end) MaybeSpan.Absent s ≡ pick x s MaybeSpan.Absent
+    go true y = rw (ne-eqb at end (λ q. omega (arith, ltb-true at end y)))
+    go false y = rw (eq-eqb at end (omega (arith, ltb-false at end y)))
+
+module _ {t : List ℕ} {at : ℕ} where
+  -- a place that is not told
+  pub place-unknown : {i : ℕ} → i ≤ length t → PlaceTold t at (unknown i)
+  place-unknown h = record { most = λ k. absurd (k refl); read = λ k. absurd (k refl); inside = h }
+
+  -- a place that is a number
+  pub place-number : {p : Part} → NumberTold t at p → PlaceTold t at p
+  unfolding placeRead foundOf pick
+  place-number n = record { most = λ k. omega (arith, n .one k); read = λ k. rw (n .read k, n .one k); inside = n .inside }
+
+  -- no place
+  pub place-nothing : isDigit (getD t at 0) ≡ false → wordEnd t (place at) .0 ≡ at → at ≤ length t → PlaceTold t at (none at)
+  unfolding placeRead wordPlace wordRead isEmpty foundOf pick
+  place-nothing d e h =
+      record { most = λ _. omega arith; read = λ _. rw (no-number t at d, e, eq-eqb at at refl); inside = h }
+
+  -- a place that is a word, neither `_` nor `r`
+  pub place-word : {end : ℕ} → isDigit (getD t at 0) ≡ false → end ≡ wordEnd t (place at) .0 → (end ≡ at → ⊥) →
+      (end ≡ at + 1 → getD t at 0 ≡ 0x5F → ⊥) → (end ≡ at + 1 → getD t at 0 ≡ 0x72 → ⊥) → at ≤ length t →
+      PlaceTold t at (record { kind = 2; value = 0; end = end })
+  unfolding placeRead wordPlace isEmpty foundOf pick
+  place-word {end} d e s u r h =
+      record {
+        most = λ _. omega arith;
+        read =
+            λ _.
+            rw (
+              no-number t at d,
+              word-plain t at end e (λ b q. u q b),
+              ne-eqb at end (λ q. s (sym q)),
+              not-r t at end r,
+            );
+        inside = rw e (word-in t (place at) h);
+      }
+
+  -- a count that is not told
+  pub count-unknown : {i : ℕ} → i ≤ length t → CountTold t at (unknown i)
+  count-unknown h = record { most = λ k. absurd (k refl); read = λ k. absurd (k refl); inside = h }
+
+  module _ {p : Part} (n : NumberTold t at p) where
+    -- a count whose number is not told
+    pub count-long : p .kind ≡ 9 → CountGiven t at p
+    count-long e =
+        record {
+          told = record { most = λ k. absurd (k e); read = λ k. absurd (k e); inside = n .inside };
+          some = λ k. absurd (k e);
+        }
+
+    -- a number with `$`
+    pub count-argument : Known p → getD t (p .end) 0 ≡ 0x24 → CountGiven t at (record { kind = 2; value = p .value; end = p .end + 1 })
+    unfolding countRead numberCount countOf pick
+    count-argument k b =
+        record {
+          told =
+              record {
+                most = λ _. omega arith;
+                read = λ _ f m. rw (n .read k, has t (p .end) 0x24 (omega arith) (omega arith) b);
+                inside = let h = byte-in t (p .end) (omega arith) in omega arith;
+              };
+          some = λ _. omega arith;
+        }
+
+    -- a number without
+    pub count-fixed : Known p → (getD t (p .end) 0 ≡ 0x24 → ⊥) → CountGiven t at p
+    unfolding countRead numberCount countOf pick
+    count-fixed k b =
+        record {
+          told =
+              record {
+                most = λ _. omega (arith, n .one k);
+                read = λ _ f m. rw (n .read k, lacks t (p .end) 0x24 (omega arith) (omega arith) b, n .one k);
+                inside = n .inside;
+              };
+          some = λ _. omega (arith, n .one k);
+        }
+
+  -- no count: a word without `$` is left, and it is not `_`
+  pub count-none : {end : ℕ} → isDigit (getD t at 0) ≡ false → end ≡ wordEnd t (place at) .0 → (getD t end 0 ≡ 0x24 → ⊥) →
+      (getD t at 0 ≡ 0x5F → ⊥) → at ≤ length t → CountTold t at (none at)
+  unfolding countRead nameCount countOf pick
+  count-none {end} d e b u h =
+      record {
+        most = λ _. omega arith;
+        read =
+            λ _ f m.
+            rw (no-number t at d, word-plain t at end e (λ q _. u q), lacks t end 0x24 (omega arith) (omega arith) b)
+            (pick-elim (λ (r : CountRead). r ≡ counted Count.Implied (place at) Fault.Clean) (isEmpty (rangeOf (place at) (place end)))
+            (λ _. refl) (λ _. refl));
+        inside = h;
+      }
+
+  -- a precision that is not told
+  pub precision-unknown : {i : ℕ} → i ≤ length t → PrecisionTold t at (unknown i)
+  precision-unknown h = record { most = λ k. absurd (k refl); read = λ k. absurd (k refl); inside = h }
+
+  -- no precision
+  pub precision-none : (getD t at 0 ≡ 0x2E → ⊥) → at ≤ length t → PrecisionTold t at (none at)
+  unfolding precisionRead countOf countSpan afterStar pick
+  precision-none b h =
+      record { most = λ _. omega arith; read = λ _ f n. rw (lacks t at 0x2E (omega arith) (omega arith) b); inside = h }
+
+  module _ (dot : getD t at 0 ≡ 0x2E) where
+    -- a star
+    pub precision-star : getD t (at + 1) 0 ≡ 0x2A → PrecisionTold t at (record { kind = 3; value = 0; end = at + 2 })
+    unfolding precisionRead afterDot countOf countSpan afterStar pick
+    precision-star b =
+        let q : at + 1 + 1 ≡ at + 2 = omega arith in
+        record {
+          most = λ _. omega arith;
+          read =
+              λ _ f n.
+              rw (has t at 0x2E (omega arith) (omega arith) dot, has t (at + 1) 0x2A (omega arith) (omega arith) b, q);
+          inside = let h = byte-in t (at + 1) (omega arith) in omega arith;
+        }
+
+    -- a count
+    pub precision-count : {p : Part} → (getD t (at + 1) 0 ≡ 0x2A → ⊥) → CountGiven t (at + 1) p → PrecisionTold t at p
+    unfolding precisionRead afterDot countSpan afterStar pick
+    precision-count {p} b g =
+        record {
+          most = λ k. omega (arith, g .told .most k);
+          read =
+              λ k f n.
+              rw (
+                has t at 0x2E (omega arith) (omega arith) dot,
+                lacks t (at + 1) 0x2A (omega arith) (omega arith) b,
+                g .told .read k f n,
+                ne-eqb (p .kind) 0 (λ e. omega (arith, g .some k)),
+                ne-eqb (p .kind) 3 (λ e. omega (arith, g .told .most k)),
+              );
+          inside = g .told .inside;
+        }
+
+  -- a fill: an align follows the character
+  pub fill-some : {c w : ℕ} → peekAt t at ≡ Char c w → alignByte (getD t (at + w) 0) ≡ true → FillTold t at (at + w)
+  unfolding fillRead fillOf pick
+  fill-some {c} {w} e y =
+      let p = peeked t at e in
+      record {
+        read = λ f. rw (e, align-byte t (at + w), y, ne-eqb at (at + w) (λ q. omega (arith, p .some)));
+        inside = p .room;
+      }
+
+  -- no fill: none follows
+  pub fill-none : {c w : ℕ} → peekAt t at ≡ Char c w → alignByte (getD t (at + w) 0) ≡ false → FillTold t at at
+  unfolding fillRead fillOf pick
+  fill-none {c} {w} e y =
+      let p = peeked t at e in
+      record {
+        read = λ f. rw (e, align-byte t (at + w), y, eq-eqb at at refl);
+        inside = omega (arith, p .room);
+      }
+
+  -- no fill at the end of the text
+  pub fill-end : peekAt t at ≡ End → at ≤ length t → FillTold t at at
+  unfolding fillRead fillOf pick
+  fill-end e h = record { read = λ f. rw (e, eq-eqb at at refl); inside = h }
+
+  -- `?`
+  pub kind-debug : getD t at 0 ≡ 0x3F → KindTold t at (signOf t at)
+  unfolding typeRead debugType isHexOrHash kindSpan pick
+  kind-debug b =
+      record {
+        read =
+            λ y f.
+            let i = at + 1 in
+            rw (
+              lacks t at 0x78 (omega arith) (omega arith) (λ q. omega arith),
+              lacks t at 0x58 (omega arith) (omega arith) (λ q. omega arith),
+              has t at 0x3F (omega arith) (omega arith) b,
+              at-byte t i 0x23 (omega arith) (omega arith),
+              at-byte t i 0x78 (omega arith) (omega arith),
+              at-byte t i 0x58 (omega arith) (omega arith),
+              ne-eqb (getD t i 0) 0x23 (ends-not 0x23 y (λ q. omega arith) (λ q. omega arith)),
+              ne-eqb (getD t i 0) 0x78 (ends-not 0x78 y (λ q. omega arith) (λ q. omega arith)),
+              ne-eqb (getD t i 0) 0x58 (ends-not 0x58 y (λ q. omega arith) (λ q. omega arith)),
+            );
+        inside = let h = byte-in t at (omega arith) in omega arith;
+      }
+
+  -- `x`
+  pub kind-lower : getD t at 0 ≡ 0x78 → KindTold t at (signOf t at)
+  unfolding typeRead hexType kindSpan pick
+  kind-lower b =
+      record {
+        read =
+            λ y f.
+            rw (
+              has t at 0x78 (omega arith) (omega arith) b,
+              lacks t (at + 1) 0x3F (omega arith) (omega arith) (ends-not 0x3F y (λ q. omega arith) (λ q. omega arith)),
+            );
+        inside = let h = byte-in t at (omega arith) in omega arith;
+      }
+
+  -- `X`
+  pub kind-upper : getD t at 0 ≡ 0x58 → KindTold t at (signOf t at)
+  unfolding typeRead hexType kindSpan pick
+  kind-upper b =
+      record {
+        read =
+            λ y f.
+            rw (
+              lacks t at 0x78 (omega arith) (omega arith) (λ q. omega arith),
+              has t at 0x58 (omega arith) (omega arith) b,
+              lacks t (at + 1) 0x3F (omega arith) (omega arith) (ends-not 0x3F y (λ q. omega arith) (λ q. omega arith)),
+            );
+        inside = let h = byte-in t at (omega arith) in omega arith;
+      }
+
+  -- a word, or nothing
+  pub kind-word : {end : ℕ} → (getD t at 0 ≡ 0x3F → ⊥) → (getD t at 0 ≡ 0x78 → ⊥) → (getD t at 0 ≡ 0x58 → ⊥) →
+      end ≡ wordEnd t (place at) .0 → at ≤ length t → KindTold t at (record { ok = not (eqb (getD t at 0) 0x5F); word = ltb at end; end = end })
+  unfolding typeRead wordType isEmpty kindSpan pick
+  kind-word {end} d l u e h =
+      record {
+        read =
+            λ y f.
+            rw (
+              lacks t at 0x78 (omega arith) (omega arith) l,
+              lacks t at 0x58 (omega arith) (omega arith) u,
+              lacks t at 0x3F (omega arith) (omega arith) d,
+              word-plain t at end e (λ q _. eqb-false (getD t at 0) 0x5F (not-true (eqb (getD t at 0) 0x5F) y) q),
+              span-by at end _ (rw e (word-on t (place at))),
+            );
+        inside = rw e (word-in t (place at) h);
+      }

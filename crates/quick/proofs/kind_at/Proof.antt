@@ -1,0 +1,57 @@
+-- `quick::kind_at` meets its contract: a sign after which the spec ends, a word, or nothing.
+use borrow.Author.Needs.{needs}
+use mathlib.Core.Path.{sym, _∙_}
+use native.Mathlib.Omega.{arith}
+use Rattle.quick.proofs.Bytes.{room-past}
+use Rattle.quick.proofs.Parts.{kind-debug, kind-lower, kind-upper, kind-word}
+use Rattle.quick.proofs.kind_at.Statement.{statement}
+use Rattle.quick.proofs.kind_at.Tie as tie
+
+byte-requires : tie.Need-byte-requires
+byte-requires c κs = search needs
+
+sign-kind-requires : tie.Need-sign-kind-requires
+sign-kind-requires c κs =
+    let b = c .before in room-past (b .before .before .pre) (sym (b .byte .ensures) ∙ c .if1 .taken) (omega arith)
+
+returns : tie.Need-returns
+returns c = rw (c .sign-kind .ensures) (kind-debug (sym (c .before .before .byte .ensures) ∙ c .before .if1 .taken))
+
+sign-kind-requires-2 : tie.Need-sign-kind-requires-2
+sign-kind-requires-2 c κs =
+    let b = c .before .before in room-past (b .before .before .pre) (sym (b .byte .ensures) ∙ c .if2 .taken) (omega arith)
+
+returns-2 : tie.Need-returns-2
+returns-2 c = rw (c .sign-kind2 .ensures) (kind-lower (sym (c .before .before .before .byte .ensures) ∙ c .before .if2 .taken))
+
+sign-kind-requires-3 : tie.Need-sign-kind-requires-3
+sign-kind-requires-3 c κs =
+    let b = c .before .before .before in room-past (b .before .before .pre) (sym (b .byte .ensures) ∙ c .if3 .taken) (omega arith)
+
+returns-3 : tie.Need-returns-3
+returns-3 c = rw (c .sign-kind3 .ensures) (kind-upper (sym (c .before .before .before .before .byte .ensures) ∙ c .before .if3 .taken))
+
+word-end-requires : tie.Need-word-end-requires
+word-end-requires c κs = search needs
+
+returns-4 : tie.Need-returns-4
+returns-4 c =
+    let i = c .before .before .before in
+    let e = i .before .byte .ensures in
+    rw e
+    (kind-word (λ q. i .if1 .left (e ∙ q)) (λ q. c .before .before .if2 .left (e ∙ q)) (λ q. c .before .if3 .left (e ∙ q)) (c .word-end .ensures)
+    (i .before .before .before .pre .within))
+
+pub kind-at-spec : {M : Type 1} → statement M
+kind-at-spec =
+    tie.close
+    (tie.spec
+    byte-requires
+    sign-kind-requires
+    returns
+    sign-kind-requires-2
+    returns-2
+    sign-kind-requires-3
+    returns-3
+    word-end-requires
+    returns-4)

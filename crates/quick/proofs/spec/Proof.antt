@@ -1,0 +1,59 @@
+-- `quick::spec` meets its contract: it is the definition, part by part, each from where the one before it stood.
+use borrow.Author.Needs.{needs}
+use Rattle.quick.proofs.Specs.{marks, marks-in, spec-known}
+use Rattle.quick.proofs.spec.Statement.{statement}
+use Rattle.quick.proofs.spec.Tie as tie
+
+fill-end-requires : tie.Need-fill-end-requires
+fill-end-requires c κs = search needs
+
+read-align-requires : tie.Need-read-align-requires
+read-align-requires c κs = search needs
+
+read-sign-requires : tie.Need-read-sign-requires
+read-sign-requires c κs = search needs
+
+consume-requires : tie.Need-consume-requires
+consume-requires c κs = search needs
+
+consume-requires-2 : tie.Need-consume-requires-2
+consume-requires-2 c κs = search needs
+
+width-requires : tie.Need-width-requires
+width-requires c κs =
+    let al = c .before .before .before in
+    let fi = al .before in
+    let m = marks (al .read-align .ensures) (c .before .before .read-sign .ensures) (c .before .consume .ensures) (c .consume2 .ensures) in
+    record { within = marks-in m (fi .fill-end .ensures .inside); small = fi .before .before .pre .small }
+
+precision-requires : tie.Need-precision-requires
+precision-requires c κs = search needs
+
+kind-at-requires : tie.Need-kind-at-requires
+kind-at-requires c κs = search needs
+
+all-told-requires : tie.Need-all-told-requires
+all-told-requires c κs = search needs
+
+returns : tie.Need-returns
+returns c =
+    let wi = c .before .before .before in
+    let ha = wi .before .before in
+    let m = marks (ha .before .before .read-align .ensures) (ha .before .read-sign .ensures) (ha .consume .ensures) (wi .before .consume2 .ensures) in
+    spec-known m (ha .before .before .before .fill-end .ensures) (wi .width .ensures) (c .before .before .precision .ensures)
+    (c .before .kind-at .ensures) (c .all-told .ensures)
+
+pub spec-spec : {M : Type 1} → statement M
+spec-spec =
+    tie.close
+    (tie.spec
+    fill-end-requires
+    read-align-requires
+    read-sign-requires
+    consume-requires
+    consume-requires-2
+    width-requires
+    precision-requires
+    kind-at-requires
+    all-told-requires
+    returns)

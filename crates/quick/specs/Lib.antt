@@ -1,0 +1,3 @@
+-- What the quick lane's numbers mean.
+pub mod Tellings
+pub mod PartsTold

@@ -1,0 +1,123 @@
+-- What the quick lane tells, in the records that `placeholder` reads. A kind of 9, and what is not `ok`, means nothing: it is not told.
+use Prim.Native.Nat.{ℕ, _+_, _≤_, _<_}
+use mathlib.Core.Path.{_≡_}
+use mathlib.Core.Bool.{true}
+use mathlib.Core.List.{List}
+use lib.Dec.{eqb}
+use lib.ListN.{length}
+use Rattle.unicode.specs.Choice.{pick}
+use Rattle.unicode.specs.Utf8.{peekAt}
+use Rattle.unicode.specs.declared.Seen.{Seen}
+use Rattle.unicode.specs.declared.Seen.the-variants.{Char, End}
+use Rattle.frame.specs.Places.{place, rangeOf}
+use Rattle.frame.specs.Spans.{spanBetween}
+use Rattle.frame.specs.declared.Frame.{Frame}
+use Rattle.scan.specs.Ends.{spanAcross}
+use Rattle.scan.specs.declared.Count.{Count}
+use Rattle.placeholder.specs.Arguments.{resolved}
+use Rattle.placeholder.specs.Recovery.{cleanFaults, textTaken}
+use Rattle.placeholder.specs.Specs.{noSpec}
+use Rattle.placeholder.specs.Wholes.{placeholderRead}
+use Rattle.placeholder.specs.declared.Argument.{Argument}
+use Rattle.placeholder.specs.declared.Fill.{Fill}
+use Rattle.placeholder.specs.declared.Hex.{Hex}
+use Rattle.placeholder.specs.declared.MaybeSpan.{MaybeSpan}
+use Rattle.placeholder.specs.declared.Mode.{Mode}
+use Rattle.placeholder.specs.declared.Spec.{Spec}
+use Rattle.placeholder.specs.declared.position.Found.{Found}
+use Rattle.placeholder.specs.declared.whole.Closing.{Closing}
+use Rattle.placeholder.specs.declared.whole.PlaceholderRead.{PlaceholderRead}
+use Rattle.quick.specs.declared.Part.{Part}
+use Rattle.quick.specs.declared.Kind.{Kind}
+use Rattle.quick.specs.declared.SpecTold.{SpecTold}
+use Rattle.quick.specs.declared.Told.{Told}
+
+-- a place that starts at a byte
+unfoldable pub foundOf : ℕ → Part → Found
+foundOf at p =
+    pick (eqb (p .kind) 0) Found.Nothing
+    (pick (eqb (p .kind) 1) (Found.Number (p .value))
+    (Found.Word (rangeOf (place at) (place (p .end)))))
+
+-- a width or a precision, with the next argument's number
+unfoldable pub countOf : ℕ → Part → Count
+countOf n p =
+    pick (eqb (p .kind) 0) Count.Implied
+    (pick (eqb (p .kind) 1) (Count.Fixed (p .value))
+    (pick (eqb (p .kind) 2) (Count.ByArgument (p .value))
+    (Count.ByStar n)))
+
+-- the span of a count that starts at a byte
+unfoldable pub countSpan : List ℕ → Frame → ℕ → Part → MaybeSpan
+countSpan t f from p = pick (eqb (p .kind) 0) MaybeSpan.Absent (MaybeSpan.Present (spanBetween t f (place from) (place (p .end))))
+
+-- the code of a character; 0 at the end
+abbrev pub codeSeen : Seen → ℕ
+codeSeen End = 0
+codeSeen (Char c w) = c
+
+-- the fill that starts at a byte and ends at another; none where they are the same
+unfoldable pub fillOf : List ℕ → Frame → ℕ → ℕ → Fill
+fillOf t f at past =
+    pick (eqb at past) Fill.Absent (Fill.Present (codeSeen (peekAt t at)) (spanAcross t f (place at) (place at)))
+
+-- a type's span: a word has one
+unfoldable pub kindSpan : List ℕ → Frame → ℕ → Kind → MaybeSpan
+kindSpan t f start k = pick (k .word) (MaybeSpan.Present (spanBetween t f (place start) (place (k .end)))) MaybeSpan.Absent
+
+-- the next argument's number after a star, and after a place that is not written
+unfoldable pub afterStar : ℕ → Part → ℕ
+afterStar n p = pick (eqb (p .kind) 3) (n + 1) n
+
+-- the spec that starts at a byte, after its colon
+unfoldable pub specOf : List ℕ → Frame → ℕ → ℕ → SpecTold → Spec
+specOf t f at n s =
+    record {
+      fill = fillOf t f at (s .fill);
+      align = s .align;
+      sign = s .sign;
+      alternate = s .alternate;
+      zero = s .zero;
+      hex = Hex.Absent;
+      width = countOf n (s .width);
+      widthspan = countSpan t f (s .from) (s .width);
+      precision = countOf n (s .precision);
+      precisionspan = countSpan t f (s .width .end) (s .precision);
+      kind = rangeOf (place (s .precision .end)) (place (s .kind .end));
+      kindspan = kindSpan t f (s .precision .end) (s .kind);
+    }
+
+-- the argument whose opening brace stands at a byte
+unfoldable pub argumentOf : List ℕ → Frame → ℕ → ℕ → Told → Argument
+argumentOf t f brace n x =
+    record {
+      place = resolved (foundOf (brace + 1) (x .place)) (afterStar n (x .spec .precision)) .place;
+      placespan = spanBetween t f (place (brace + 1)) (place (x .to));
+      spec = pick (x .colon) (specOf t f (x .to + 1) n (x .spec)) (noSpec (place (x .to)) n .spec);
+      range = rangeOf (place brace) (place (x .close + 1));
+    }
+
+-- the next argument's number after a placeholder: a star's and a place's that is not written are taken
+unfoldable pub nextOf : ℕ → Told → ℕ
+nextOf n x = resolved (foundOf 0 (x .place)) (afterStar n (x .spec .precision)) .next
+
+-- the placeholder: closed, and nothing is wrong in it
+unfoldable pub toldRead : List ℕ → Frame → ℕ → ℕ → Told → PlaceholderRead
+toldRead t f brace n x =
+    record {
+      argument = argumentOf t f brace n x;
+      text = textTaken Mode.Format (argumentOf t f brace n x .spec .kind);
+      faults = cleanFaults;
+      closing = Closing.Closed (place (x .close));
+      at = place (x .close + 1);
+      next = nextOf n x;
+    }
+
+-- WHAT IS TOLD IS WHAT IS READ, for the placeholder whose place starts at a byte, in any frame and with any number of the next argument
+pub record Tells (t : List ℕ) (at : ℕ) (x : Told) : Type 0 where
+  pub read : x .ok ≡ true → (f : Frame) (brace n : ℕ) → at ≡ brace + 1 → placeholderRead t f Mode.Format (place brace) (place at) n ≡ toldRead t f brace n x
+  pub placed : x .ok ≡ true → x .place .kind ≤ 2
+  pub wide : x .ok ≡ true → x .spec .width .kind ≤ 2
+  pub precise : x .ok ≡ true → x .spec .precision .kind ≤ 3
+  pub reached : x .ok ≡ true → x .to < length t
+  pub closed : x .ok ≡ true → x .close < length t

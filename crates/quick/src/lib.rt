@@ -1,0 +1,406 @@
+// The quick lane: a closed placeholder of Format mode in which nothing is wrong, told in plain numbers. Whatever it does not tell is left to
+// `placeholder`, and what it tells is what `placeholder` reads.
+use frame::TextPlace;
+use placeholder::Align;
+use placeholder::Sign;
+use unicode::Seen;
+ghost use mathlib.Core.Path.{_≡_};
+ghost use mathlib.Core.Bool.{true, false};
+ghost use Prim.Native.Nat.{ℕ, _+_};
+ghost use lib.ListN.{getD};
+ghost use Rattle.frame.specs.Places.{place};
+ghost use Rattle.scan.specs.Words.{isDigit, wordEnd};
+ghost use Rattle.quick.specs.Tellings.{Tells};
+ghost use Rattle.quick.specs.PartsTold.{Room, alignByte, endsByte, NumberTold, PlaceTold, FillTold, CountTold, CountGiven, PrecisionTold, KindTold, AllTold, SpecKnown, NoSpec, ClosedAt, PlaceEnds};
+
+// A place or a count. Kind 0: nothing; 1: a number; 2: of a place a word, of a count a number with `$`; 3: a star; 9: it is not told.
+pub struct Part {
+    pub kind: u8,
+    pub value: u16,
+    pub end: usize,
+}
+
+// A type: where it ends, and whether it is a word. Not `ok`: it is not told.
+pub struct Kind {
+    pub ok: bool,
+    pub word: bool,
+    pub end: usize,
+}
+
+// The spec after a colon: the place after its fill (that of the colon's end where there is none), its marks, where its width starts, and its other parts.
+pub struct SpecTold {
+    pub ok: bool,
+    pub fill: usize,
+    pub align: Align,
+    pub sign: Sign,
+    pub alternate: bool,
+    pub zero: bool,
+    pub from: usize,
+    pub width: Part,
+    pub precision: Part,
+    pub kind: Kind,
+}
+
+// A placeholder: its place, where the place ends with the whitespace after it, the spec if a colon stands there, and the closing brace.
+pub struct Told {
+    pub ok: bool,
+    pub place: Part,
+    pub to: usize,
+    pub colon: bool,
+    pub spec: SpecTold,
+    pub close: usize,
+}
+
+fn is_digit(b: u8) -> bool
+    ensures { λ r. ⌜ r ≡ isDigit b ⌝ }
+{
+    if 0x30 <= b { b <= 0x39 } else { false }
+}
+
+// The number at a place, of at most four digits.
+fn number(text: &[u8], at: usize) -> Part
+    requires { ⌜ Room (now text) at × (isDigit (getD (now text) at 0) ≡ true) ⌝ }
+    ensures { λ r. ⌜ NumberTold (now (text .entry)) at r ⌝ }
+{
+    let mut value = 0;
+    let mut i = at;
+    while i < at + 4 {
+        let b = unicode::byte(text, i);
+        if !is_digit(b) {
+            return Part {
+                kind: 1,
+                value,
+                end: i,
+            };
+        }
+        value = value * 10 + (b - 0x30) as u16;
+        i += 1;
+    }
+    if is_digit(unicode::byte(text, i)) {
+        return untold(i);
+    }
+    Part {
+        kind: 1,
+        value,
+        end: i,
+    }
+}
+
+fn untold(at: usize) -> Part
+    ensures { λ r. ⌜ r ≡ record { kind = 9; value = 0; end = at } ⌝ }
+{
+    Part {
+        kind: 9,
+        value: 0,
+        end: at,
+    }
+}
+
+fn nothing(at: usize) -> Part
+    ensures { λ r. ⌜ r ≡ record { kind = 0; value = 0; end = at } ⌝ }
+{
+    Part {
+        kind: 0,
+        value: 0,
+        end: at,
+    }
+}
+
+// Where the word at a place ends.
+fn word_end(text: &[u8], at: usize) -> usize
+    requires { ⌜ Room (now text) at ⌝ }
+    ensures { λ r. ⌜ r ≡ wordEnd (now (text .entry)) (place at) .0 ⌝ }
+{
+    let b = unicode::byte(text, at);
+    if b < 0x80 {
+        if unicode::ascii_start(b) {
+            return unicode::continue_end(text, at + 1);
+        }
+        return at;
+    }
+    let end = scan::word_end(text, TextPlace(at));
+    end.0
+}
+
+// The place of an argument. The words `_` and `r` are not told.
+fn place(text: &[u8], at: usize) -> Part
+    requires { ⌜ Room (now text) at ⌝ }
+    ensures { λ r. ⌜ PlaceTold (now (text .entry)) at r ⌝ }
+{
+    let b = unicode::byte(text, at);
+    if is_digit(b) {
+        return number(text, at);
+    }
+    let end = word_end(text, at);
+    if end == at {
+        return nothing(at);
+    }
+    if end == at + 1 {
+        if b == b'_' {
+            return untold(at);
+        }
+        if b == b'r' {
+            return untold(at);
+        }
+    }
+    Part {
+        kind: 2,
+        value: 0,
+        end,
+    }
+}
+
+fn is_align(b: u8) -> bool
+    ensures { λ r. ⌜ r ≡ alignByte b ⌝ }
+{
+    if b == b'<' {
+        return true;
+    }
+    if b == b'>' {
+        return true;
+    }
+    b == b'^'
+}
+
+// The place after the fill, or the same place where there is none.
+fn fill_end(text: &[u8], at: usize) -> usize
+    requires { ⌜ Room (now text) at ⌝ }
+    ensures { λ r. ⌜ FillTold (now (text .entry)) at r ⌝ }
+{
+    match unicode::peek(text, at) {
+        Seen::Char { code: _, width } => {
+            if is_align(unicode::byte(text, at + width)) {
+                return at + width;
+            }
+            at
+        }
+        Seen::End => at,
+    }
+}
+
+// A count that begins with a digit.
+fn count(text: &[u8], at: usize) -> Part
+    requires { ⌜ Room (now text) at × (isDigit (getD (now text) at 0) ≡ true) ⌝ }
+    ensures { λ r. ⌜ CountGiven (now (text .entry)) at r ⌝ }
+{
+    let read = number(text, at);
+    if read.kind == 9 {
+        return read;
+    }
+    if unicode::byte(text, read.end) == b'$' {
+        return Part {
+            kind: 2,
+            value: read.value,
+            end: read.end + 1,
+        };
+    }
+    read
+}
+
+// The width. A word with `$` and the word `_` are not told; another word is left for the type.
+fn width(text: &[u8], at: usize) -> Part
+    requires { ⌜ Room (now text) at ⌝ }
+    ensures { λ r. ⌜ CountTold (now (text .entry)) at r ⌝ }
+{
+    let b = unicode::byte(text, at);
+    if is_digit(b) {
+        return count(text, at);
+    }
+    let end = word_end(text, at);
+    if unicode::byte(text, end) == b'$' {
+        return untold(at);
+    }
+    if b == b'_' {
+        return untold(at);
+    }
+    nothing(at)
+}
+
+// The precision with its dot: a star or a number; any other is not told.
+fn precision(text: &[u8], at: usize) -> Part
+    requires { ⌜ Room (now text) at ⌝ }
+    ensures { λ r. ⌜ PrecisionTold (now (text .entry)) at r ⌝ }
+{
+    if unicode::byte(text, at) != b'.' {
+        return nothing(at);
+    }
+    let b = unicode::byte(text, at + 1);
+    if b == b'*' {
+        return Part {
+            kind: 3,
+            value: 0,
+            end: at + 2,
+        };
+    }
+    if is_digit(b) {
+        return count(text, at + 1);
+    }
+    untold(at)
+}
+
+// A sign of a type, `?`, `x` or `X`: alone it is told.
+fn sign_kind(text: &[u8], at: usize) -> Kind
+    requires { ⌜ Room (now text) (at + 1) ⌝ }
+    ensures { λ r. ⌜ r ≡ record { ok = endsByte (getD (now (text .entry)) (at + 1) 0); word = false; end = at + 1 } ⌝ }
+{
+    let after = unicode::byte(text, at + 1);
+    Kind {
+        ok: ends_spec(after),
+        word: false,
+        end: at + 1,
+    }
+}
+
+// Whether a byte can only end a spec: a `}` or a space.
+fn ends_spec(b: u8) -> bool
+    ensures { λ r. ⌜ r ≡ endsByte b ⌝ }
+{
+    if b == b'}' {
+        return true;
+    }
+    b == b' '
+}
+
+// The type.
+fn kind_at(text: &[u8], at: usize) -> Kind
+    requires { ⌜ Room (now text) at ⌝ }
+    ensures { λ r. ⌜ KindTold (now (text .entry)) at r ⌝ }
+{
+    let b = unicode::byte(text, at);
+    if b == b'?' {
+        return sign_kind(text, at);
+    }
+    if b == b'x' {
+        return sign_kind(text, at);
+    }
+    if b == b'X' {
+        return sign_kind(text, at);
+    }
+    let end = word_end(text, at);
+    Kind {
+        ok: b != b'_',
+        word: at < end,
+        end,
+    }
+}
+
+// The spec from after its colon.
+fn spec(text: &[u8], at: usize) -> SpecTold
+    requires { ⌜ Room (now text) at ⌝ }
+    ensures { λ r. ⌜ SpecKnown (now (text .entry)) at r ⌝ }
+{
+    let fill = fill_end(text, at);
+    let aligning = placeholder::format::read_align(text, TextPlace(fill));
+    let align = aligning.align;
+    let signing = placeholder::format::read_sign(text, aligning.at);
+    let sign = signing.sign;
+    let hash = scan::consume(text, signing.at, b'#');
+    let flag = scan::consume(text, hash.at, b'0');
+    let from = flag.at.0;
+    let width = width(text, from);
+    let precision = precision(text, width.end);
+    let kind = kind_at(text, precision.end);
+    SpecTold {
+        ok: all_told(text, flag.ate, from, width, precision, kind),
+        fill,
+        align,
+        sign,
+        alternate: hash.ate,
+        zero: flag.ate,
+        from,
+        width,
+        precision,
+        kind,
+    }
+}
+
+// Whether the parts of a spec are told. A `0` with `$` is no flag, and is not told.
+fn all_told(text: &[u8], zero: bool, from: usize, width: Part, precision: Part, kind: Kind) -> bool
+    ensures { λ r. ⌜ (r ≡ true → AllTold (now (text .entry)) zero from width precision kind) ⌝ }
+{
+    if zero {
+        if unicode::byte(text, from) == b'$' {
+            return false;
+        }
+    }
+    if width.kind == 9 {
+        return false;
+    }
+    if precision.kind == 9 {
+        return false;
+    }
+    kind.ok
+}
+
+// Where no spec stands.
+fn no_spec(at: usize) -> SpecTold
+    ensures { λ r. ⌜ NoSpec at r ⌝ }
+{
+    SpecTold {
+        ok: true,
+        fill: at,
+        align: Align::Unknown,
+        sign: Sign::Absent,
+        alternate: false,
+        zero: false,
+        from: at,
+        width: nothing(at),
+        precision: nothing(at),
+        kind: Kind {
+            ok: true,
+            word: false,
+            end: at,
+        },
+    }
+}
+
+// The placeholder whose place starts at `at`.
+pub fn tell(text: &[u8], at: usize) -> Told
+    requires { ⌜ Room (now text) at ⌝ }
+    ensures { λ r. ⌜ Tells (now (text .entry)) at r ⌝ }
+{
+    let place = place(text, at);
+    let to = unicode::space_end(text, place.end);
+    let b = unicode::byte(text, to);
+    if b == b':' {
+        return with_spec(text, place, to);
+    }
+    Told {
+        ok: told_bare(b, place),
+        place,
+        to,
+        colon: false,
+        spec: no_spec(to),
+        close: to,
+    }
+}
+
+fn told_bare(b: u8, place: Part) -> bool
+    ensures { λ r. ⌜ (r ≡ true → ClosedAt b place) ⌝ }
+{
+    if b == b'}' { place.kind != 9 } else { false }
+}
+
+// A placeholder with a colon at `to`.
+fn with_spec(text: &[u8], place: Part, to: usize) -> Told
+    requires { ⌜ Room (now text) to × (getD (now text) to 0 ≡ 0x3A) ⌝ }
+    ensures { λ r. ⌜ ((at : ℕ) → PlaceEnds (now (text .entry)) at place to → Tells (now (text .entry)) at r) ⌝ }
+{
+    let spec = spec(text, to + 1);
+    let close = unicode::space_end(text, spec.kind.end);
+    let b = unicode::byte(text, close);
+    Told {
+        ok: told_whole(b, place, spec.ok),
+        place,
+        to,
+        colon: true,
+        spec,
+        close,
+    }
+}
+
+fn told_whole(b: u8, place: Part, ok: bool) -> bool
+    ensures { λ r. ⌜ (r ≡ true → ClosedAt b place × (ok ≡ true)) ⌝ }
+{
+    if ok { told_bare(b, place) } else { false }
+}

@@ -1,0 +1,74 @@
+-- `scan::plain_blocks` meets its contract. The invariant: `i` is within the text, and the run of plain characters from `i` ends where
+-- the run from `at` does, since each turn passes a block without a brace. The measure is what is left of the text.
+use Prim.Native.Nat.{_-_, _≤_}
+use mathlib.Core.Path.{_≡_, refl, _∙_}
+use native.Mathlib.Omega.{arith}
+use lib.ListN.{length}
+use denote.Ref.{now}
+use Rattle.unicode.specs.Chars.{runEnd}
+use Rattle.unicode.specs.BlockLaws.{how-many-add, run-block}
+use Rattle.scan.specs.Characters.{isPlain, isBrace}
+use Rattle.scan.specs.ScanLaws.{plain-high}
+use Rattle.scan.proofs.plain_blocks.Statement.{statement}
+use Rattle.scan.proofs.plain_blocks.Tie as tie
+
+abbrev Inv-loop : tie.InvT-loop
+Inv-loop text at i₀ i = (i ≤ length text) × (runEnd isPlain text i ≡ runEnd isPlain text at)
+
+abbrev μ-loop : tie.MeasureT-loop
+μ-loop text at i₀ i = length text - i
+
+loop-holds : tie.Need-loop-holds Inv-loop μ-loop
+loop-holds c = (omega arith, refl)
+
+add-loop : tie.Need-add-loop Inv-loop μ-loop
+add-loop c = omega arith
+
+braces-requires : tie.Need-braces-requires Inv-loop μ-loop
+braces-requires c κs = omega arith
+
+add-braces : tie.Need-add-braces Inv-loop μ-loop
+add-braces c = omega arith
+
+braces-requires-2 : tie.Need-braces-requires-2 Inv-loop μ-loop
+braces-requires-2 c κs = omega arith
+
+add-if1 : tie.Need-add-if1 Inv-loop μ-loop
+add-if1 c = omega arith
+
+returns : tie.Need-returns Inv-loop μ-loop
+returns c = c .before .before .before .before .loop .inv .1
+
+add-i : tie.Need-add-i Inv-loop μ-loop
+add-i c = omega arith
+
+loop-less : tie.Need-loop-less Inv-loop μ-loop
+loop-less c = omega arith
+
+loop-again : tie.Need-loop-again Inv-loop μ-loop
+loop-again c =
+    let l = c .before .before .before .before in
+    let t = now (l .before .before .args .text) in
+    let i = l .loop .i in
+    (omega arith, run-block isPlain plain-high t i 16 (omega arith) (how-many-add isBrace t i 8 8 ∙ omega arith) ∙ l .loop .inv .1)
+
+returns-2 : tie.Need-returns-2 Inv-loop μ-loop
+returns-2 c = c .before .loop .inv .1
+
+pub plain-blocks-spec : {M : Type 1} → statement M
+plain-blocks-spec =
+    tie.close
+    (tie.spec
+    Inv-loop
+    μ-loop
+    loop-holds
+    add-loop
+    braces-requires
+    add-braces
+    braces-requires-2
+    add-if1
+    returns
+    add-i
+    loop-less
+    loop-again
+    returns-2)

@@ -1,0 +1,3 @@
+-- Laws that the proofs of `words` share.
+pub mod Laying
+pub mod Wholes
