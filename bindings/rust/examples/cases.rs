@@ -1,0 +1,151 @@
+//! A stream of cases on standard input to their full listing on standard output, through the library's C boundary: the same stream and listing as the program
+//! `cases`, for the comparison with the Rust.
+
+use nitarehpu::raw::{self, ERROR, Lists, PIECE, Request};
+use std::io::{self, BufWriter, Read, Write};
+
+/// The program's own lists hold so many records each.
+const ROOM: usize = 1024;
+const LONGEST: usize = 66_560;
+
+fn two(bytes: &[u8]) -> usize {
+    usize::from(bytes[0]) + 256 * usize::from(bytes[1])
+}
+
+fn three(bytes: &[u8]) -> usize {
+    two(bytes) + 65_536 * usize::from(bytes[2])
+}
+
+/// Splits off so many bytes, if there are as many and they are not too many.
+fn split<'a>(stream: &mut &'a [u8], count: usize) -> Option<&'a [u8]> {
+    if count > LONGEST {
+        return None;
+    }
+    let (part, rest) = stream.split_at_checked(count)?;
+    *stream = rest;
+    Some(part)
+}
+
+fn span(words: &[u32]) -> String {
+    format!("{}..{}", words[0], words[1])
+}
+
+fn maybe(words: &[u32]) -> String {
+    if words[0] == 1 { span(&words[1..]) } else { "-".to_owned() }
+}
+
+fn count(words: &[u32]) -> String {
+    match words[0] {
+        0 => "implied".to_owned(),
+        1 => format!("fixed {}", words[1]),
+        2 => format!("arg {}", words[1]),
+        3 => format!("star {}", words[1]),
+        _ => format!("name {} {} {}", words[1], words[2], span(&words[3..])),
+    }
+}
+
+fn piece(out: &mut impl Write, words: &[u32]) -> io::Result<()> {
+    if words[0] == 0 {
+        assert!(words[3..].iter().all(|&word| word == 0), "what a literal does not tell is 0");
+        return writeln!(out, "lit {} {}", words[1], words[2]);
+    }
+    write!(out, "arg {} {} ", words[1], words[2])?;
+    match words[3] {
+        0 => write!(out, "next {}", words[4])?,
+        1 => write!(out, "at {}", words[4])?,
+        _ => write!(out, "name {} {}", words[4], words[5])?,
+    }
+    let fill = if words[8] == 1 { format!("{} {}", words[9], span(&words[10..])) } else { "-".to_owned() };
+    write!(out, " span {} fill {fill}", span(&words[6..]))?;
+    write!(out, " align {} sign {} alt {} zero {} hex {}", words[12], words[13], words[14], words[15], words[34])?;
+    write!(out, " width {} {}", count(&words[16..]), maybe(&words[21..]))?;
+    write!(out, " precision {} {}", count(&words[24..]), maybe(&words[29..]))?;
+    writeln!(out, " type {} {} {}", words[32], words[33], maybe(&words[37..]))
+}
+
+fn error(out: &mut impl Write, words: &[u32]) -> io::Result<()> {
+    writeln!(
+        out,
+        "err {} {} second {} quoted {} suggestion {}",
+        words[0],
+        span(&words[1..]),
+        maybe(&words[5..]),
+        maybe(&words[9..]),
+        maybe(&words[13..])
+    )
+}
+
+/// The lists of one case: as many records as it asks for, of the program's own.
+struct Store {
+    pieces: Vec<u32>,
+    errors: Vec<u32>,
+    places: Vec<usize>,
+    lines: Vec<usize>,
+}
+
+impl Store {
+    fn new(rooms: [usize; 4]) -> Self {
+        let [pieces, errors, places, lines] = rooms.map(|room| room.min(ROOM));
+        Store { pieces: vec![0; PIECE * pieces], errors: vec![0; ERROR * errors], places: vec![0; 2 * places], lines: vec![0; 2 * lines] }
+    }
+
+    fn is_zero(&self) -> bool {
+        self.pieces.iter().chain(&self.errors).all(|&word| word == 0) && self.places.iter().chain(&self.lines).all(|&word| word == 0)
+    }
+}
+
+fn case(out: &mut impl Write, k: usize, head: &[u8], snippet: &[u8], text: &[u8]) -> io::Result<()> {
+    let request = Request {
+        mode: head[0],
+        style: (head[1] == 1).then(|| two(&head[2..])),
+        snippet: (head[4] == 1).then_some(snippet),
+        newline: head[5] == 1,
+    };
+    let mut store = Store::new([6, 8, 10, 12].map(|at| two(&head[at..])));
+    let mut lists = Lists { pieces: &mut store.pieces, errors: &mut store.errors, places: &mut store.places, lines: &mut store.lines };
+    let answer = raw::read(text, request, &mut lists);
+    writeln!(out, "case {k}")?;
+    writeln!(
+        out,
+        "answer {} {} {} {} {} {}",
+        answer.number, answer.place, answer.pieces, answer.errors, answer.places, answer.lines
+    )?;
+    if answer.number != 0 {
+        return if store.is_zero() { Ok(()) } else { writeln!(out, "changed") };
+    }
+    for words in store.pieces.chunks_exact(PIECE).take(answer.pieces) {
+        piece(out, words)?;
+    }
+    for words in store.errors.chunks_exact(ERROR).take(answer.errors) {
+        error(out, words)?;
+    }
+    for ends in store.places.chunks_exact(2).take(answer.places) {
+        writeln!(out, "place {}..{}", ends[0], ends[1])?;
+    }
+    for ends in store.lines.chunks_exact(2).take(answer.lines) {
+        writeln!(out, "line {}..{}", ends[0], ends[1])?;
+    }
+    Ok(())
+}
+
+fn main() -> io::Result<()> {
+    let mut bytes = Vec::new();
+    io::stdin().read_to_end(&mut bytes)?;
+    let mut stream = &bytes[..];
+    let mut out = BufWriter::new(io::stdout().lock());
+    let mut k = 0;
+    while !stream.is_empty() {
+        let parts = split(&mut stream, 20).and_then(|head| {
+            let snippet = split(&mut stream, three(&head[14..]))?;
+            let text = split(&mut stream, three(&head[17..]))?;
+            Some((head, snippet, text))
+        });
+        let Some((head, snippet, text)) = parts else {
+            writeln!(out, "stream")?;
+            break;
+        };
+        case(&mut out, k, head, snippet, text)?;
+        k += 1;
+    }
+    out.flush()
+}

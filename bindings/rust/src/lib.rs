@@ -1,0 +1,95 @@
+//! The placeholder reader for report templates, for Rust programs: what `rustc_parse_format` finds in a format string, from a library whose every answer is
+//! proved. The records have the shape and the names that its users know, and own what they hold.
+//!
+//! ```
+//! let parsed = nitarehpu::parse("{name}: {value:>10.3}", None, None, false, nitarehpu::ParseMode::Format)?;
+//! assert_eq!(parsed.pieces.len(), 3);
+//! assert!(parsed.errors.is_empty());
+//! # Ok::<(), nitarehpu::Refused>(())
+//! ```
+
+pub mod raw;
+mod records;
+
+pub use records::{
+    Alignment, Argument, Count, DebugHex, FormatSpec, ParseError, Piece, Position, Sign,
+};
+
+use std::ops::Range;
+
+/// Which grammar a text is read by.
+#[derive(Clone, Copy, Debug, PartialEq, Eq)]
+pub enum ParseMode {
+    Format,
+    InlineAsm,
+    Diagnostic,
+}
+
+/// What a reading found. Spans are of the snippet, ranges of the text's bytes.
+#[derive(Clone, Debug, Default, PartialEq, Eq)]
+pub struct Parsed {
+    pub pieces: Vec<Piece>,
+    pub errors: Vec<ParseError>,
+    pub arg_places: Vec<Range<usize>>,
+    pub line_spans: Vec<Range<usize>>,
+}
+
+/// Why a text is not read.
+#[derive(Clone, Copy, Debug, PartialEq, Eq)]
+pub enum Refused {
+    /// Above 255 hashes, or a snippet without a style.
+    Style,
+    /// The text is over 65,535 bytes, or the snippet over 66,048.
+    Long,
+    /// A newline is marked as appended, and the text does not end in one.
+    Newline,
+}
+
+impl std::fmt::Display for Refused {
+    fn fmt(&self, f: &mut std::fmt::Formatter<'_>) -> std::fmt::Result {
+        f.write_str(match self {
+            Refused::Style => "the style has more than 255 hashes, or a snippet comes without a style",
+            Refused::Long => "the text is longer than 65,535 bytes, or the snippet than 66,048",
+            Refused::Newline => "a newline is marked as appended, and the text does not end in one",
+        })
+    }
+}
+
+impl std::error::Error for Refused {}
+
+/// Reads a text. The style is the number of hashes of a raw string, none for a text that has none; the snippet is the literal as it stands in the source.
+pub fn parse(
+    text: &str,
+    style: Option<usize>,
+    snippet: Option<&str>,
+    append_newline: bool,
+    mode: ParseMode,
+) -> Result<Parsed, Refused> {
+    let request = raw::Request {
+        mode: mode as u8,
+        style,
+        snippet: snippet.map(str::as_bytes),
+        newline: append_newline,
+    };
+    let needed = raw::count(text.as_bytes(), request);
+    match needed.number {
+        0 => {}
+        2 => return Err(Refused::Style),
+        3 => return Err(Refused::Long),
+        5 => return Err(Refused::Newline),
+        other => unreachable!("a string with a mode is not refused with {other}"),
+    }
+    let mut pieces = vec![0; raw::PIECE * needed.pieces];
+    let mut errors = vec![0; raw::ERROR * needed.errors];
+    let mut places = vec![0; 2 * needed.places];
+    let mut lines = vec![0; 2 * needed.lines];
+    let mut lists = raw::Lists { pieces: &mut pieces, errors: &mut errors, places: &mut places, lines: &mut lines };
+    let answer = raw::read(text.as_bytes(), request, &mut lists);
+    assert_eq!(answer, needed, "a reading needs what was counted");
+    Ok(Parsed {
+        pieces: pieces.chunks_exact(raw::PIECE).map(|words| records::piece(text, words)).collect(),
+        errors: errors.chunks_exact(raw::ERROR).map(records::error).collect(),
+        arg_places: places.chunks_exact(2).map(|ends| ends[0]..ends[1]).collect(),
+        line_spans: lines.chunks_exact(2).map(|ends| ends[0]..ends[1]).collect(),
+    })
+}

@@ -1,0 +1,130 @@
+//! The library's call, on lists of numbers, without what its C form leaves to the caller: slices know their lengths and do not overlap.
+
+/// The numbers of a piece and of an error record.
+pub const PIECE: usize = 40;
+pub const ERROR: usize = 16;
+
+unsafe extern "C" {
+    fn nitarehpu_read(
+        text: *const u8,
+        text_length: usize,
+        snippet: *const u8,
+        snippet_length: usize,
+        mode: u8,
+        style: u8,
+        hashes: usize,
+        given: u8,
+        newline: u8,
+        pieces: *mut u32,
+        pieces_length: usize,
+        errors: *mut u32,
+        errors_length: usize,
+        places: *mut usize,
+        places_length: usize,
+        lines: *mut usize,
+        lines_length: usize,
+        answer: *mut usize,
+        answer_length: usize,
+    ) -> u8;
+
+    fn nitarehpu_count(
+        text: *const u8,
+        text_length: usize,
+        snippet: *const u8,
+        snippet_length: usize,
+        mode: u8,
+        style: u8,
+        hashes: usize,
+        given: u8,
+        newline: u8,
+        answer: *mut usize,
+        answer_length: usize,
+    ) -> u8;
+}
+
+/// How a text is to be read, in the call's numbers.
+#[derive(Clone, Copy, Debug)]
+pub struct Request<'a> {
+    pub mode: u8,
+    /// The hashes of a raw string, if the text has a style.
+    pub style: Option<usize>,
+    pub snippet: Option<&'a [u8]>,
+    pub newline: bool,
+}
+
+/// The answer's numbers.
+#[derive(Clone, Copy, Debug, Default, PartialEq, Eq)]
+pub struct Answer {
+    pub number: usize,
+    pub place: usize,
+    pub pieces: usize,
+    pub errors: usize,
+    pub places: usize,
+    pub lines: usize,
+}
+
+/// The lent lists.
+pub struct Lists<'a> {
+    pub pieces: &'a mut [u32],
+    pub errors: &'a mut [u32],
+    pub places: &'a mut [usize],
+    pub lines: &'a mut [usize],
+}
+
+fn answered([number, place, pieces, errors, places, lines]: [usize; 6]) -> Answer {
+    Answer { number, place, pieces, errors, places, lines }
+}
+
+/// Reads a text into lent lists.
+pub fn read(text: &[u8], request: Request<'_>, lists: &mut Lists<'_>) -> Answer {
+    let snippet = request.snippet.unwrap_or_default();
+    let mut answer = [0; 6];
+    // SAFETY: each pointer goes with its slice's length, and Rust's rules keep the slices that are written apart from all others.
+    unsafe {
+        nitarehpu_read(
+            text.as_ptr(),
+            text.len(),
+            snippet.as_ptr(),
+            snippet.len(),
+            request.mode,
+            u8::from(request.style.is_some()),
+            request.style.unwrap_or(0),
+            u8::from(request.snippet.is_some()),
+            u8::from(request.newline),
+            lists.pieces.as_mut_ptr(),
+            lists.pieces.len(),
+            lists.errors.as_mut_ptr(),
+            lists.errors.len(),
+            lists.places.as_mut_ptr(),
+            lists.places.len(),
+            lists.lines.as_mut_ptr(),
+            lists.lines.len(),
+            answer.as_mut_ptr(),
+            answer.len(),
+        );
+    }
+    answered(answer)
+}
+
+/// How many records each list of a reading needs.
+pub fn count(text: &[u8], request: Request<'_>) -> Answer {
+    let snippet = request.snippet.unwrap_or_default();
+    let mut answer = [0; 6];
+    // SAFETY: as above.
+    unsafe {
+        nitarehpu_count(
+            text.as_ptr(),
+            text.len(),
+            snippet.as_ptr(),
+            snippet.len(),
+            request.mode,
+            u8::from(request.style.is_some()),
+            request.style.unwrap_or(0),
+            u8::from(request.snippet.is_some()),
+            u8::from(request.newline),
+            answer.as_mut_ptr(),
+            answer.len(),
+        );
+    }
+    answered(answer)
+}

@@ -1,0 +1,94 @@
+//! The API on texts whose outcome is known: the rows of document 01's bench that show most, the lookup line, and the refusals.
+
+use nitarehpu::{Alignment, Argument, Count, ParseMode, Parsed, Piece, Position, Refused, parse};
+
+fn read(text: &str) -> Parsed {
+    parse(text, None, None, false, ParseMode::Format).expect("the text is read")
+}
+
+fn arguments(parsed: &Parsed) -> Vec<&Argument> {
+    let argument = |piece| match piece {
+        &Piece::NextArgument(ref argument) => Some(&**argument),
+        Piece::Lit(_) => None,
+    };
+    parsed.pieces.iter().filter_map(argument).collect()
+}
+
+#[test]
+fn an_empty_text_holds_nothing() {
+    assert_eq!(read(""), Parsed::default());
+}
+
+#[test]
+fn a_doubled_brace_is_a_literal_without_its_first() {
+    assert_eq!(read("{{a").pieces, [Piece::Lit("{a".to_owned())]);
+}
+
+#[test]
+fn a_star_is_counted_before_its_place() {
+    let parsed = read("{:.*} {} {}");
+    let found = arguments(&parsed);
+    assert_eq!(found[0].format.precision, Count::CountIsStar(0));
+    let places: Vec<_> = found.iter().map(|argument| argument.position.clone()).collect();
+    assert_eq!(places, [1, 2, 3].map(Position::ArgumentImplicitlyIs));
+}
+
+#[test]
+fn every_part_of_a_spec_is_told() {
+    let parsed = read("{value:ø^+#010.3x?}");
+    let [argument] = arguments(&parsed)[..] else { panic!("one argument") };
+    let spec = &argument.format;
+    assert_eq!(argument.position, Position::ArgumentNamed("value".to_owned()));
+    assert_eq!((spec.fill, spec.align, spec.alternate, spec.zero_pad), (Some('ø'), Alignment::AlignCenter, true, true));
+    assert_eq!((&spec.width, &spec.precision, &spec.ty[..]), (&Count::CountIs(10), &Count::CountIs(3), "?"));
+    assert!(parsed.errors.is_empty());
+}
+
+#[test]
+fn counts_by_name_and_by_argument_are_told() {
+    let parsed = read("{:wide$.1$}");
+    let [argument] = arguments(&parsed)[..] else { panic!("one argument") };
+    assert_eq!(argument.format.width, Count::CountIsName("wide".to_owned(), 3..7));
+    assert_eq!(argument.format.precision, Count::CountIsParam(1));
+}
+
+#[test]
+fn errors_of_the_front_come_first() {
+    let kinds: Vec<_> = read("{foo?}").errors.iter().map(|error| (error.kind, error.span.clone())).collect();
+    assert_eq!(kinds, [(9, 5..6), (2, 5..5), (1, 6..7)]);
+}
+
+#[test]
+fn a_number_too_large_keeps_its_remainder() {
+    let parsed = read("{65536}");
+    assert_eq!(arguments(&parsed)[0].position, Position::ArgumentIs(0));
+    assert_eq!((parsed.errors[0].kind, parsed.errors[0].span.clone()), (7, 2..8));
+}
+
+#[test]
+fn a_source_literal_has_lines_and_places() {
+    let parsed = parse("a\n b{}", Some(0), Some("r\"a\n b{}\""), false, ParseMode::Format).expect("the text is read");
+    assert_eq!(parsed.line_spans, [2..3, 5..8]);
+    assert_eq!(parsed.arg_places, [6..8]);
+}
+
+#[test]
+fn a_diagnostic_type_is_any_text() {
+    let parsed = parse("{name:any text }", None, None, false, ParseMode::Diagnostic).expect("the text is read");
+    assert_eq!(arguments(&parsed)[0].format.ty, "any text ");
+}
+
+#[test]
+fn refusals_are_told() {
+    let refused = |text: &str, style, snippet, newline| parse(text, style, snippet, newline, ParseMode::Format).expect_err("it is refused");
+    assert_eq!(refused("", Some(256), None, false), Refused::Style);
+    assert_eq!(refused("", None, Some("\"\""), false), Refused::Style);
+    assert_eq!(refused(&"a".repeat(65_536), None, None, false), Refused::Long);
+    assert_eq!(refused("a", None, None, true), Refused::Newline);
+}
+
+#[test]
+fn the_longest_text_is_read() {
+    let text = "{}".repeat(32_767);
+    assert_eq!(read(&text).pieces.len(), 32_767);
+}

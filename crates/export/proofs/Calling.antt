@@ -1,0 +1,88 @@
+-- A call: what is decided before the text is read, the lists that reading leaves, and the answer's list. Rests on Parts and answer's AnswerLaws.
+use Prim.Native.Nat.{ℕ, _≤_, _<_}
+use mathlib.Core.Path.{_≡_, ap, _∙_}
+use mathlib.Core.List.{List}
+use native.Mathlib.Omega.{arith}
+use borrow.Author.Tests.{lt-ltb, le-ltb}
+use lib.ListN.{length}
+use Rattle.unicode.specs.Choice.{pick}
+use Rattle.reading.specs.Lists.{places, lines}
+use Rattle.answer.specs.Answers.{frameFor, modeFor, Opened, Decided}
+use Rattle.answer.specs.AnswerLaws.{opened-refused, opened-counted}
+use Rattle.answer.specs.Exits.{over, pairs}
+use Rattle.answer.specs.declared.Request.{Request}
+use Rattle.answer.specs.declared.Answer.{Answer}
+use Rattle.answer.specs.declared.Decision.{Decision}
+use Rattle.fills.specs.Filling.{piecesIn, errorsIn}
+use Rattle.export.specs.Calls.{roomsIn, answerWords, isShort, wide, Exported, Counted}
+use Rattle.export.specs.Parts.{ReadBy, Read}
+use Rattle.export.proofs.Listing.{at-refused}
+
+module _ (t s : List ℕ) (q : Request) (ps es ls ns : List ℕ) where
+  -- a call that is refused before its text is read leaves all lists
+  pub read-refused : {d : Decision} → Opened t s q d → (d .answer .number ≡ 0 → ⊥) → Read t s q ps ps es es ls ls ns ns (d .answer)
+  read-refused {d} x some =
+      let n = d .answer .number in
+      record {
+        answer = opened-refused t s q x some (roomsIn ps es ls ns);
+        lists =
+            record {
+              pieces = at-refused n (piecesIn t (frameFor t s q) (modeFor q)) ps some;
+              errors = at-refused n (errorsIn t (frameFor t s q) (modeFor q)) es some;
+              places = at-refused n (pairs (places t (frameFor t s q) (modeFor q))) ls some;
+              lines = at-refused n (pairs (lines t (frameFor t s q) (modeFor q))) ns some;
+            };
+      }
+
+  -- any other is what reading its text by the frame and the mode at hand comes to
+  pub read-on : {d : Decision} {ps′ es′ ls′ ns′ : List ℕ} {a : Answer} → Opened t s q d → d .answer .number ≡ 0 →
+      ReadBy t (d .frame) (d .mode) ps ps′ es es′ ls ls′ ns ns′ a → Read t s q ps ps′ es es′ ls ls′ ns ns′ a
+  read-on x z y =
+      record {
+        answer = y .answer ∙ opened-counted t s q x z (roomsIn ps es ls ns);
+        lists = rw (x .frame z, x .mode z) at (y .lists);
+      }
+
+  module _ (out : List ℕ) where
+    -- without room for the answer nothing is done
+    pub short-call : length out < 6 → Exported t s q ps ps es es ls ls ns ns out out 10
+    unfolding isShort pick
+    short-call h =
+        let some : _≡_ {A = ℕ} 10 0 → ⊥ = λ z. omega arith in
+        record {
+          number = rw (lt-ltb _ _ h);
+          answer = rw (lt-ltb _ _ h);
+          pieces = at-refused 10 (piecesIn t (frameFor t s q) (modeFor q)) ps some;
+          errors = at-refused 10 (errorsIn t (frameFor t s q) (modeFor q)) es some;
+          places = at-refused 10 (pairs (places t (frameFor t s q) (modeFor q))) ls some;
+          lines = at-refused 10 (pairs (lines t (frameFor t s q) (modeFor q))) ns some;
+        }
+
+    -- with room the answer is written, and the lists are as reading leaves them
+    pub whole-call : {ps′ es′ ls′ ns′ out′ : List ℕ} {a : Answer} → 6 ≤ length out → Read t s q ps ps′ es es′ ls ls′ ns ns′ a →
+        out′ ≡ over (answerWords a) out → Exported t s q ps ps′ es es′ ls ls′ ns ns′ out out′ (a .number)
+    unfolding isShort pick
+    whole-call h x e =
+        record {
+          number = rw (le-ltb _ _ h) (ap (λ (a : Answer). a .number) (x .answer));
+          answer = rw (le-ltb _ _ h) (e ∙ ap (λ (a : Answer). over (answerWords a) out) (x .answer));
+          pieces = x .lists .pieces;
+          errors = x .lists .errors;
+          places = x .lists .places;
+          lines = x .lists .lines;
+        }
+
+module _ (t s : List ℕ) (q : Request) (out : List ℕ) where
+  -- and so it is with a count
+  pub short-count : length out < 6 → Counted t s q out out 10
+  unfolding isShort pick
+  short-count h = record { number = rw (lt-ltb _ _ h); answer = rw (lt-ltb _ _ h) }
+
+  pub whole-count : {out′ : List ℕ} {d : Decision} → 6 ≤ length out → Decided t s q wide d → out′ ≡ over (answerWords (d .answer)) out →
+      Counted t s q out out′ (d .answer .number)
+  unfolding isShort pick
+  whole-count h x e =
+      record {
+        number = rw (le-ltb _ _ h) (ap (λ (a : Answer). a .number) (x .answer));
+        answer = rw (le-ltb _ _ h) (e ∙ ap (λ (a : Answer). over (answerWords a) out) (x .answer));
+      }

@@ -1,0 +1,3 @@
+-- Laws that the proofs of `export` share.
+pub mod Listing
+pub mod Calling

@@ -1,0 +1,153 @@
+-- What lists of numbers have room for, and what they hold at exit. Rests on Calls, Parts, and the laws of answer and reading.
+use Prim.Native.Nat.{ℕ, _*_, _≤_}
+use mathlib.Core.Path.{_≡_, refl, sym, _∙_}
+use mathlib.Core.Bool.{Bool, true, false, not}
+use mathlib.Core.List.{List, [], _∷_}
+use native.Mathlib.Omega.{arith}
+use borrow.Author.Tests.{eq-eqb, ne-eqb, le-ltb}
+use lib.Dec.{eqb}
+use lib.ListN.{length, set}
+use lib.Seq.{sets-eq}
+use Rattle.unicode.specs.Choice.{pick}
+use Rattle.frame.specs.Spans.{Small}
+use Rattle.frame.specs.declared.Frame.{Frame}
+use Rattle.placeholder.specs.declared.Mode.{Mode}
+use Rattle.reading.specs.Lists.{pieces, errors, places, lines, countsOf}
+use Rattle.reading.specs.RoomLaws.{few-pieces, few-errors}
+use Rattle.reading.specs.declared.Counts.{Counts}
+use Rattle.answer.specs.Answers.{answered, roomFor}
+use Rattle.answer.specs.AnswerLaws.{room-enough}
+use Rattle.answer.specs.Exits.{over, pairs, atExit}
+use Rattle.answer.specs.declared.Rooms.{Rooms}
+use Rattle.answer.specs.declared.Answer.{Answer}
+use Rattle.fills.specs.Filling.{piecesIn, errorsIn, Fills}
+use Rattle.fills.specs.declared.run.Filled.{Filled as Found}
+use Rattle.export.specs.Calls.{isYes, roomsIn, answerWords}
+use Rattle.export.specs.Parts.{Roomy, Ample, Filled, ReadBy}
+
+-- an answer's six numbers, set one after the other
+pub six : (l : List ℕ) (a : Answer) → 6 ≤ length l →
+    set (set (set (set (set (set l 0 (a .number)) 1 (a .place)) 2 (a .counts .pieces)) 3 (a .counts .errors)) 4 (a .counts .places)) 5 (a .counts .lines) ≡
+    over (answerWords a) l
+unfolding over answerWords
+six l a h = sets-eq (a .number ∷ a .place ∷ a .counts .pieces ∷ a .counts .errors ∷ a .counts .places ∷ a .counts .lines ∷ []) l 0 h
+
+-- any mark but 0 is a yes
+pub yes : (n : ℕ) → not (eqb n 0) ≡ isYes n
+unfolding isYes pick
+yes n = go (eqb n 0)
+  where
+    go : (b : Bool) → not b ≡ pick b false true
+    go true = refl
+    go false = refl
+
+-- a list at exit, where the number is 0 and where it is not
+module _ (n : ℕ) (new old : List ℕ) where
+  pub at-done : n ≡ 0 → over new old ≡ atExit n new old
+  unfolding atExit pick
+  at-done z = rw (eq-eqb n 0 z)
+
+  pub at-refused : (n ≡ 0 → ⊥) → old ≡ atExit n new old
+  unfolding atExit pick
+  at-refused some = rw (ne-eqb n 0 some)
+
+-- nothing over a list
+over-none : (old : List ℕ) → old ≡ over (pairs []) old
+unfolding over pairs
+over-none old = refl
+
+module _ (t : List ℕ) (f : Frame) (m : Mode) where
+  -- only a source literal has spans
+  no-places : f .literal ≡ false → places t f m ≡ []
+  unfolding places pick
+  no-places e = rw e
+
+  no-lines : f .literal ≡ false → lines t f m ≡ []
+  unfolding lines pick
+  no-lines e = rw e
+
+  -- no list is too short where none can be
+  roomy-zero : {r : Rooms} → Roomy (length t) f r → roomFor (countsOf t f m) r ≡ 0
+  unfolding roomFor countsOf pick
+  roomy-zero {r} x =
+      rw (
+        le-ltb (r .pieces) (length (pieces t f m)) (omega (arith, few-pieces t f m, x .pieces)),
+        le-ltb (r .errors) (length (errors t f m)) (omega (arith, few-errors t f m, x .errors)),
+        no-places (x .literal),
+        no-lines (x .literal),
+        le-ltb (r .places) 0 (omega arith),
+        le-ltb (r .lines) 0 (omega arith),
+      )
+
+  module _ {ps es : List ℕ} where
+    -- a record a byte is room enough
+    pub ample-room : Ample t f ps es → Small t f × (40 * length (pieces t f m) ≤ length ps) × (16 * length (errors t f m) ≤ length es)
+    ample-room x = (x .small, omega (arith, few-pieces t f m, x .pieces), omega (arith, few-errors t f m, x .errors))
+
+    -- and what is no source literal is filled with that
+    pub filled-is : {ps′ es′ : List ℕ} {r : Found} → f .literal ≡ false → Fills t f m ps ps′ es es′ r →
+        Filled t f m ps ps′ es es′ (answered 0 0 (record { pieces = r .pieces; errors = r .errors; places = 0; lines = 0 }))
+    unfolding countsOf
+    filled-is e x =
+        record { answer = rw (x .pieces, x .errors, no-places e, no-lines e); pieces = x .wrote-pieces; errors = x .wrote-errors }
+
+  module _ (ps es ls ns : List ℕ) where
+    -- lists of numbers with room for so many records
+    pub record Ready : Type 0 where
+      pub pieces : 40 * length (pieces t f m) ≤ length ps
+      pub errors : 16 * length (errors t f m) ≤ length es
+      pub places : 2 * length (places t f m) ≤ length ls
+      pub lines : 2 * length (lines t f m) ≤ length ns
+
+    -- where the counts say so
+    pub ready : {n : ℕ} {c : Counts} {r : Rooms} → n ≡ roomFor c r → c ≡ countsOf t f m → r ≡ roomsIn ps es ls ns → n ≡ 0 → Ready
+    unfolding roomsIn countsOf
+    ready {c = c} {r = r} p e q z =
+        let x = room-enough (countsOf t f m) (roomsIn ps es ls ns) (rw (e, q) at (sym p ∙ z)) in
+        record { pieces = omega (arith, x .pieces); errors = omega (arith, x .errors); places = omega (arith, x .places); lines = omega (arith, x .lines) }
+
+    -- where no list can be too short
+    pub ample : {r : Rooms} → Small t f → r ≡ roomsIn ps es ls ns → Roomy (length t) f r → Ample t f ps es
+    unfolding roomsIn
+    ample small q x =
+        let y = rw q at x in
+        record { small = small; literal = y .literal; pieces = omega (arith, y .pieces); errors = omega (arith, y .errors) }
+
+    -- THE LISTS AT EXIT
+    module _ {n : ℕ} {c : Counts} {r : Rooms} (p : n ≡ roomFor c r) (e : c ≡ countsOf t f m) (q : r ≡ roomsIn ps es ls ns) where
+      -- a list without room leaves them all
+      pub refused-by : (n ≡ 0 → ⊥) → ReadBy t f m ps ps es es ls ls ns ns (answered n 0 c)
+      refused-by some =
+          record {
+            answer = rw (p, e, q);
+            lists =
+                record {
+                  pieces = at-refused n (piecesIn t f m) ps some;
+                  errors = at-refused n (errorsIn t f m) es some;
+                  places = at-refused n (pairs (places t f m)) ls some;
+                  lines = at-refused n (pairs (lines t f m)) ns some;
+                };
+          }
+
+      -- with room each is filled
+      pub done-by : {ps′ es′ ls′ ns′ : List ℕ} → n ≡ 0 → ps′ ≡ over (piecesIn t f m) ps → es′ ≡ over (errorsIn t f m) es →
+          ls′ ≡ over (pairs (places t f m)) ls → ns′ ≡ over (pairs (lines t f m)) ns →
+          ReadBy t f m ps ps′ es es′ ls ls′ ns ns′ (answered n 0 c)
+      done-by z a b d g =
+          record {
+            answer = rw (p, e, q);
+            lists =
+                record {
+                  pieces = a ∙ at-done n (piecesIn t f m) ps z;
+                  errors = b ∙ at-done n (errorsIn t f m) es z;
+                  places = d ∙ at-done n (pairs (places t f m)) ls z;
+                  lines = g ∙ at-done n (pairs (lines t f m)) ns z;
+                };
+          }
+
+    -- and so it is where no list can be too short; the lists of spans stay
+    pub roomy-by : {r : Rooms} {ps′ es′ : List ℕ} {a : Answer} → r ≡ roomsIn ps es ls ns → Roomy (length t) f r → Filled t f m ps ps′ es es′ a →
+        ReadBy t f m ps ps′ es es′ ls ls ns ns a
+    roomy-by {r = r} q x y =
+        rw (y .answer)
+        (done-by (sym (roomy-zero x)) refl q refl (y .pieces) (y .errors) (rw (no-places (x .literal)) (over-none ls)) (rw (no-lines (x .literal)) (over-none ns)))

@@ -1,0 +1,53 @@
+-- What the parts of a call come to: the lists at exit by the answer's number, and when a text need not be counted first. Rests on Calls.
+use Prim.Native.Nat.{ℕ, _*_, _≤_}
+use mathlib.Core.Path.{_≡_}
+use mathlib.Core.Bool.{false}
+use mathlib.Core.List.{List}
+use lib.ListN.{length}
+use Rattle.frame.specs.Spans.{Small}
+use Rattle.frame.specs.declared.Frame.{Frame}
+use Rattle.placeholder.specs.declared.Mode.{Mode}
+use Rattle.reading.specs.Lists.{places, lines, countsOf}
+use Rattle.answer.specs.Answers.{answered, countedBy, answerOf, frameFor, modeFor}
+use Rattle.answer.specs.Exits.{over, pairs, atExit}
+use Rattle.answer.specs.declared.Request.{Request}
+use Rattle.answer.specs.declared.Rooms.{Rooms}
+use Rattle.answer.specs.declared.Answer.{Answer}
+use Rattle.fills.specs.Filling.{piecesIn, errorsIn}
+use Rattle.export.specs.Calls.{roomsIn}
+
+-- no list can be too short for a text of n bytes: each piece and each error has a byte of its own, and only a source literal has spans
+pub record Roomy (n : ℕ) (f : Frame) (r : Rooms) : Type 0 where
+  pub literal : f .literal ≡ false
+  pub pieces : n ≤ r .pieces
+  pub errors : n ≤ r .errors
+
+-- the same of lists of numbers
+pub record Ample (t : List ℕ) (f : Frame) (ps es : List ℕ) : Type 0 where
+  pub small : Small t f
+  pub literal : f .literal ≡ false
+  pub pieces : 40 * length t ≤ length ps
+  pub errors : 16 * length t ≤ length es
+
+-- a text that is read without being counted first: done, and both lists filled
+pub record Filled (t : List ℕ) (f : Frame) (m : Mode) (ps ps′ es es′ : List ℕ) (a : Answer) : Type 0 where
+  pub answer : a ≡ answered 0 0 (countsOf t f m)
+  pub pieces : ps′ ≡ over (piecesIn t f m) ps
+  pub errors : es′ ≡ over (errorsIn t f m) es
+
+-- the four lists at exit, by the answer's number
+pub record Lists (t : List ℕ) (f : Frame) (m : Mode) (number : ℕ) (ps ps′ es es′ ls ls′ ns ns′ : List ℕ) : Type 0 where
+  pub pieces : ps′ ≡ atExit number (piecesIn t f m) ps
+  pub errors : es′ ≡ atExit number (errorsIn t f m) es
+  pub places : ls′ ≡ atExit number (pairs (places t f m)) ls
+  pub lines : ns′ ≡ atExit number (pairs (lines t f m)) ns
+
+-- a text that is read by a frame and a mode
+pub record ReadBy (t : List ℕ) (f : Frame) (m : Mode) (ps ps′ es es′ ls ls′ ns ns′ : List ℕ) (a : Answer) : Type 0 where
+  pub answer : a ≡ countedBy t f m (roomsIn ps es ls ns)
+  pub lists : Lists t f m (a .number) ps ps′ es es′ ls ls′ ns ns′
+
+-- a call
+pub record Read (t s : List ℕ) (q : Request) (ps ps′ es es′ ls ls′ ns ns′ : List ℕ) (a : Answer) : Type 0 where
+  pub answer : a ≡ answerOf t s q (roomsIn ps es ls ns)
+  pub lists : Lists t (frameFor t s q) (modeFor q) (a .number) ps ps′ es es′ ls ls′ ns ns′

@@ -1,0 +1,205 @@
+// The public call for programs in other languages, on numbers and lent lists of numbers. include/nitarehpu.h says the same in C's words.
+use answer::Answer;
+use answer::Hashes;
+use answer::Request;
+use answer::Rooms;
+use answer::decide::decide;
+use answer::decide::opened;
+use answer::decide::room_for;
+use answer::spans::fill_lines;
+use answer::spans::fill_places;
+use frame::Frame;
+use placeholder::Mode;
+use reading::Counts;
+ghost use mathlib.Core.Path.{_≡_};
+ghost use mathlib.Core.Bool.{true};
+ghost use Prim.Native.Nat.{_≤_};
+ghost use lib.ListN.{length};
+ghost use Rattle.frame.specs.Spans.{Small};
+ghost use Rattle.answer.specs.Exits.{over};
+ghost use Rattle.export.specs.Calls.{Exported, Counted, styleOf, requestOf, roomsIn, answerWords};
+ghost use Rattle.export.specs.Parts.{Roomy, Ample, Filled, ReadBy, Read};
+
+// How a text is to be read. Any mark but 0 is a yes.
+fn request_of(mode: u8, style: u8, hashes: usize, given: u8, newline: u8) -> Request
+    ensures { λ r. ⌜ r ≡ requestOf mode style hashes given newline ⌝ }
+{
+    Request {
+        mode,
+        style: style_of(style, hashes),
+        given: given != 0,
+        newline: newline != 0,
+    }
+}
+
+fn style_of(style: u8, hashes: usize) -> Hashes
+    ensures { λ r. ⌜ r ≡ styleOf style hashes ⌝ }
+{
+    if style == 0 {
+        return Hashes::Plain;
+    }
+    Hashes::Raw(hashes)
+}
+
+// The six numbers of an answer, over the first of a list.
+fn put_answer(out: &mut [usize], answer: Answer)
+    requires { ⌜ 6 ≤ length (now out) ⌝ }
+    ensures { λ _. ⌜ now (out .exit) ≡ over (answerWords answer) (now (out .entry)) ⌝ }
+{
+    let counts = answer.counts;
+    out[0] = answer.number as usize;
+    out[1] = answer.place;
+    out[2] = counts.pieces;
+    out[3] = counts.errors;
+    out[4] = counts.places;
+    out[5] = counts.lines;
+}
+
+// Whether both lists have room for whatever a text of so many bytes holds: a record a byte is enough. Only source literals need the other lists.
+fn is_roomy(size: usize, frame: Frame, rooms: Rooms) -> bool
+    ensures { λ r. ⌜ (r ≡ true → Roomy size frame rooms) ⌝ }
+{
+    if frame.literal {
+        return false;
+    }
+    if rooms.pieces < size {
+        return false;
+    }
+    size <= rooms.errors
+}
+
+// A text whose lists are roomy is read without being counted first.
+fn filled(text: &[u8], frame: Frame, mode: Mode, pieces: &mut [u32], errors: &mut [u32]) -> Answer
+    requires { ⌜ Ample (now text) frame (now pieces) (now errors) ⌝ }
+    ensures { λ r. ⌜ Filled (now (text .entry)) frame mode (now (pieces .entry)) (now (pieces .exit)) (now (errors .entry)) (now (errors .exit)) r ⌝ }
+{
+    let got = fills::run::fill(text, frame, mode, pieces, errors);
+    let counts = Counts {
+        pieces: got.pieces,
+        errors: got.errors,
+        places: 0,
+        lines: 0,
+    };
+    Answer {
+        number: 0,
+        place: 0,
+        counts,
+    }
+}
+
+// A text that is counted first: its lists are filled where each has room.
+fn counted(
+    text: &[u8],
+    frame: Frame,
+    mode: Mode,
+    rooms: Rooms,
+    pieces: &mut [u32],
+    errors: &mut [u32],
+    places: &mut [usize],
+    lines: &mut [usize],
+) -> Answer
+    requires { ⌜ Small (now text) frame × (rooms ≡ roomsIn (now pieces) (now errors) (now places) (now lines)) ⌝ }
+    ensures { λ r. ⌜ ReadBy (now (text .entry)) frame mode (now (pieces .entry)) (now (pieces .exit)) (now (errors .entry)) (now (errors .exit)) (now (places .entry)) (now (places .exit)) (now (lines .entry)) (now (lines .exit)) r ⌝ }
+{
+    let counts = reading::tally::tally(text, frame, mode);
+    let number = room_for(counts, rooms);
+    if number == 0 {
+        fills::run::fill(text, frame, mode, pieces, errors);
+        fill_places(text, frame, mode, places);
+        fill_lines(text, frame, mode, lines);
+    }
+    Answer {
+        number,
+        place: 0,
+        counts,
+    }
+}
+
+// The answer to a call, and its lists filled where it is done.
+fn read(
+    text: &[u8],
+    snippet: &[u8],
+    request: Request,
+    pieces: &mut [u32],
+    errors: &mut [u32],
+    places: &mut [usize],
+    lines: &mut [usize],
+) -> Answer
+    ensures { λ r. ⌜ Read (now (text .entry)) (now (snippet .entry)) request (now (pieces .entry)) (now (pieces .exit)) (now (errors .entry)) (now (errors .exit)) (now (places .entry)) (now (places .exit)) (now (lines .entry)) (now (lines .exit)) r ⌝ }
+{
+    let rooms = Rooms {
+        pieces: pieces.len() / 40,
+        errors: errors.len() / 16,
+        places: places.len() / 2,
+        lines: lines.len() / 2,
+    };
+    let first = opened(text, snippet, request);
+    let answer = first.answer;
+    let frame = first.frame;
+    let mode = first.mode;
+    if answer.number != 0 {
+        return answer;
+    }
+    if is_roomy(text.len(), frame, rooms) {
+        return filled(text, frame, mode, pieces, errors);
+    }
+    counted(text, frame, mode, rooms, pieces, errors, places, lines)
+}
+
+// Reads a text into four lists of numbers: 40 a piece, 16 an error record, 2 a span. The answer's six numbers go to a list of their own; without
+// room for them the call is refused with 10. A refusal changes no list.
+#[no_mangle]
+pub extern "C" fn nitarehpu_read(
+    text: &[u8],
+    snippet: &[u8],
+    mode: u8,
+    style: u8,
+    hashes: usize,
+    given: u8,
+    newline: u8,
+    pieces: &mut [u32],
+    errors: &mut [u32],
+    places: &mut [usize],
+    lines: &mut [usize],
+    answer: &mut [usize],
+) -> u8
+    ensures { λ r. ⌜ Exported (now (text .entry)) (now (snippet .entry)) (requestOf mode style hashes given newline) (now (pieces .entry)) (now (pieces .exit)) (now (errors .entry)) (now (errors .exit)) (now (places .entry)) (now (places .exit)) (now (lines .entry)) (now (lines .exit)) (now (answer .entry)) (now (answer .exit)) r ⌝ }
+{
+    if answer.len() < 6 {
+        return 10;
+    }
+    let request = request_of(mode, style, hashes, given, newline);
+    let got = read(text, snippet, request, pieces, errors, places, lines);
+    put_answer(answer, got);
+    got.number
+}
+
+// How many records each list of a reading needs, with the same refusals 1 to 5 and 10.
+#[no_mangle]
+pub extern "C" fn nitarehpu_count(
+    text: &[u8],
+    snippet: &[u8],
+    mode: u8,
+    style: u8,
+    hashes: usize,
+    given: u8,
+    newline: u8,
+    answer: &mut [usize],
+) -> u8
+    ensures { λ r. ⌜ Counted (now (text .entry)) (now (snippet .entry)) (requestOf mode style hashes given newline) (now (answer .entry)) (now (answer .exit)) r ⌝ }
+{
+    if answer.len() < 6 {
+        return 10;
+    }
+    let request = request_of(mode, style, hashes, given, newline);
+    let rooms = Rooms {
+        pieces: 0xFFFFFFFF,
+        errors: 0xFFFFFFFF,
+        places: 0xFFFFFFFF,
+        lines: 0xFFFFFFFF,
+    };
+    let decision = decide(text, snippet, request, rooms);
+    let got = decision.answer;
+    put_answer(answer, got);
+    got.number
+}

@@ -1,0 +1,6 @@
+-- Laws that the proofs of `fills` share.
+pub mod Overlays
+pub mod Noting
+pub mod Telling
+pub mod Stepping
+pub mod Running

@@ -1,0 +1,269 @@
+-- A whole text written step by step: some pieces and records are written, the steps left give the rest. Then what the two runs of `fill` leave.
+-- Rests on Turning, Filling, Noting and Overlays, and on reading's StepLaws and ListLaws.
+use Prim.Native.Nat.{ℕ, zero, suc, _+_, _-_, _*_, _≤_, _<_}
+use mathlib.Core.Path.{_≡_, refl, sym, ap, _∙_}
+use mathlib.Core.Bool.{Bool, true, false}
+use mathlib.Core.List.{List, [], _∷_, _++_}
+use native.Mathlib.Omega.{arith}
+use lib.ListN.{length, length-append}
+use Rattle.frame.specs.Spans.{Small}
+use Rattle.frame.specs.declared.Frame.{Frame}
+use Rattle.scan.specs.declared.Fault.{Fault}
+use Rattle.placeholder.specs.declared.Mode.{Mode}
+use Rattle.reading.specs.Faults.{stepSlots, wrong, faultsOf}
+use Rattle.reading.specs.Lists.{gather, piecesOf, pieces, frontOnly, backOnly, reversed, listed, records, faults, errors}
+use Rattle.reading.specs.ListLaws.{gather-append, gather-more, errors-length}
+use Rattle.reading.specs.Records.{isFront}
+use Rattle.reading.specs.Steps.{stepAt, onward, follow, stepsFrom, start, reading}
+use Rattle.reading.specs.StepLaws.{steps-more, steps-over, steps-none, step-next}
+use Rattle.reading.specs.declared.Piece.{Piece}
+use Rattle.reading.specs.declared.State.{State}
+use Rattle.reading.specs.declared.Step.{Step}
+use Rattle.answer.specs.Exits.{over}
+use Rattle.words.specs.Laid.{laid}
+use Rattle.words.specs.LaidLaws.{laid-length, laid-on, pieceWords-length}
+use Rattle.words.specs.Layout.{pieceWords, errorWords}
+use Rattle.fills.specs.Filling.{piecesIn, errorsIn, Fills}
+use Rattle.fills.specs.Turning.{Noted, notedBy, notes, fronts, backs, StepRoom, Stepped, Turned, fresh, slots, Ran}
+use Rattle.fills.specs.declared.turns.Marks.{Marks}
+use Rattle.fills.specs.declared.turns.Turn.{Turn}
+use Rattle.fills.proofs.Overlays.{laid-none, laid-first, over-again, gather-length}
+use Rattle.fills.proofs.Noting.{front-more, front-same, back-more, back-same, wrong-append, Left, left-first, left-on, left-room, inWords, words-more, words-none, words-length, Counted, notes-counted, notes-placed}
+
+-- HOW MANY: each of some faults goes to the front or to the back
+parts-length : (xs : List Fault) → length (frontOnly xs) + length (backOnly xs) ≡ length xs
+unfolding frontOnly backOnly
+parts-length [] = omega arith
+parts-length (x ∷ xs) = go (isFront x) refl (parts-length xs)
+  where
+    go : (b : Bool) → isFront x ≡ b → length (frontOnly xs) + length (backOnly xs) ≡ length xs →
+        length (frontOnly (x ∷ xs)) + length (backOnly (x ∷ xs)) ≡ suc (length xs)
+    go true e i = omega (arith, ap length (front-more x xs e), ap length (back-same x xs e))
+    go false e i = omega (arith, ap length (front-same x xs e), ap length (back-more x xs e))
+
+-- what is wrong in the slots of some steps is what they found wrong
+wrong-gather : (xs : List Step) → wrong (gather stepSlots xs) ≡ gather faultsOf xs
+unfolding gather faultsOf wrong
+wrong-gather [] = refl
+wrong-gather (x ∷ xs) = wrong-append (stepSlots x) (gather stepSlots xs) ∙ ap (λ (l : List Fault). wrong (stepSlots x) ++ l) (wrong-gather xs)
+
+module _ (t : List ℕ) (f : Frame) (m : Mode) where
+  wrong-slots : wrong (slots t f m) ≡ faults t f m
+  unfolding slots faults
+  wrong-slots = wrong-gather (reading t f m)
+
+  -- so there are as many records as go to the front and to the back
+  pub parts-count : length (fronts (slots t f m)) + length (backs (slots t f m)) ≡ length (errors t f m)
+  parts-count = parts-length (wrong (slots t f m)) ∙ ap length wrong-slots ∙ sym (errors-length t f m)
+
+  words-all : (xs : List Fault) → gather errorWords (records t f xs) ≡ inWords t f xs
+  unfolding gather records
+  words-all [] = sym (words-none t f)
+  words-all (x ∷ xs) = rw (words-more t f x xs, words-all xs)
+
+  -- and their numbers are those of the front, the last first, and of the back
+  pub errors-words : errorsIn t f m ≡ inWords t f (reversed (fronts (slots t f m)) ++ backs (slots t f m))
+  unfolding errorsIn errors listed
+  errors-words = rw wrong-slots (words-all (listed (faults t f m)))
+
+-- PIECES: some are written, and with the rest laid after them the list is as it is to be
+pub record Laying (old : List ℕ) (all : List Piece) (new : List ℕ) (n : ℕ) (rest : List Piece) : Type 0 where
+  pub gives : laid new (40 * n) (gather pieceWords rest) ≡ laid old 0 (gather pieceWords all)
+  pub count : n + length rest ≡ length all
+  pub same : length new ≡ length old
+
+laying-first : (old : List ℕ) (all : List Piece) → Laying old all old 0 all
+laying-first old all = record { gives = refl; count = omega arith; same = refl }
+
+module _ {old : List ℕ} {all : List Piece} {new : List ℕ} {n : ℕ} {rest : List Piece} (g : Laying old all new n rest) where
+  -- none is left
+  laying-done : rest ≡ [] → (n ≡ length all) × (new ≡ over (gather pieceWords all) old)
+  unfolding gather
+  laying-done e =
+      (omega (arith, g .count, ap length e), sym (laid-none new (40 * n)) ∙ rw e at (g .gives) ∙ laid-first old (gather pieceWords all))
+
+  module _ (xs ys : List Piece) (e : rest ≡ xs ++ ys) (room : 40 * length all ≤ length old) where
+    -- there is room for the next ones
+    laying-room : 40 * (n + length xs) ≤ length new
+    laying-room = omega (arith, g .count, g .same, ap length e, length-append xs ys)
+
+    -- and when they are written, for the others
+    laying-on : {new′ : List ℕ} {k : ℕ} → k ≡ n + length xs → new′ ≡ laid new (40 * n) (gather pieceWords xs) → Laying old all new′ k ys
+    laying-on {new′} {k} c w =
+        let a = gather-length pieceWords 40 pieceWords-length xs in
+        let b = gather-length pieceWords 40 pieceWords-length ys in
+        let l = length-append xs ys in
+        let h = ap length e in
+        let q : 40 * k ≡ 40 * n + length (gather pieceWords xs) = omega arith in
+        let r : 40 * n + length (gather pieceWords xs) + length (gather pieceWords ys) ≤ length new = omega (arith, g .count, g .same) in
+        let j : laid new (40 * n) (gather pieceWords xs ++ gather pieceWords ys) ≡ laid old 0 (gather pieceWords all) =
+        rw (e, gather-append pieceWords xs ys) at (g .gives)
+        in
+        record {
+          gives = rw (w, q) (laid-on new (40 * n) (gather pieceWords xs) (gather pieceWords ys) r ∙ j);
+          count = omega (arith, g .count);
+          same = rw w (laid-length new (40 * n) (gather pieceWords xs) (omega arith)) ∙ g .same;
+        }
+
+-- A RUN: what is written, where reading stands, and how many turns are left
+pub record Going (t : List ℕ) (f : Frame) (m : Mode) (k : ℕ) (ps₀ es₀ ps es : List ℕ) (s : State) (r : Marks) (left : ℕ) : Type 0 where
+  pub pieces : Laying ps₀ (pieces t f m) ps (r .pieces) (gather piecesOf (stepsFrom left t f m s))
+  pub errors : Left t f (fresh k es₀) (slots t f m) (notedBy r es) (gather stepSlots (stepsFrom left t f m s))
+  pub next : s .next + 4 * left ≤ 0x40000
+
+module _ (t : List ℕ) (f : Frame) (m : Mode) where
+  -- the step where reading stands, and what follows it
+  steps-some : (k : ℕ) (s : State) → 0 < k →
+      stepsFrom k t f m s ≡ stepAt t f m s ∷ follow (stepsFrom (k - 1) t f m) (onward (s .next) (stepAt t f m s))
+  unfolding stepsFrom
+  steps-some zero s h = absurd (omega arith)
+  steps-some (suc k) s h = let q : suc k - 1 ≡ k = omega arith in rw q
+
+  module _ (k : ℕ) (ps₀ es₀ : List ℕ) (room : 40 * length (pieces t f m) ≤ length ps₀) where
+    -- at the start
+    pub going-first : Small t f → 16 * length (errors t f m) ≤ length es₀ → k ≤ length (fronts (slots t f m)) →
+        Going t f m k ps₀ es₀ ps₀ es₀ start (record { pieces = 0; low = k; high = k; fronts = 0 }) (length t + 1)
+    unfolding pieces slots reading
+    going-first small r h =
+        let c = parts-count t f m in
+        record {
+          pieces = laying-first ps₀ (pieces t f m);
+          errors =
+              left-first t f {s = fresh k es₀} {all = slots t f m}
+              (record { back = omega arith; front = omega arith; count = omega arith });
+          next = omega (arith, small .text);
+        }
+
+    -- all is written
+    ran : {ps es : List ℕ} {r : Marks} → Laying ps₀ (pieces t f m) ps (r .pieces) [] → Left t f (fresh k es₀) (slots t f m) (notedBy r es) [] →
+        Ran t f m k ps₀ es₀ r ps es
+    unfolding notes piecesIn
+    ran p l = record { pieces = laying-done p refl .0; wrote = laying-done p refl .1; noted = l .gives }
+
+    module _ {ps es : List ℕ} (s : State) {r : Marks} (left : ℕ) (g : Going t f m k ps₀ es₀ ps es s r left) where
+      -- no turns are left
+      pub going-none : left ≤ 0 → Ran t f m k ps₀ es₀ r ps es
+      unfolding gather
+      going-none h =
+          let e = steps-none t f m left s h in
+          ran (rw e at (g .pieces)) (rw e at (g .errors))
+
+      -- there is room for the step where reading stands
+      pub going-room : 0 < left → StepRoom (stepAt t f m s) r ps es
+      going-room h =
+          let x = stepAt t f m s in
+          let more = follow (stepsFrom (left - 1) t f m) (onward (s .next) x) in
+          let e = steps-some left s h in
+          record {
+            pieces =
+                laying-room (g .pieces) (piecesOf x) (gather piecesOf more) (ap (gather piecesOf) e ∙ gather-more piecesOf x more) room;
+            errors = left-room t f (stepSlots x) (gather stepSlots more) (rw (e, gather-more stepSlots x more) at (g .errors));
+          }
+
+      module _ {r′ : Marks} {ps′ es′ : List ℕ} (d : Stepped t f (stepAt t f m s) r ps es r′ ps′ es′) (more : List Step)
+          (e : stepsFrom left t f m s ≡ stepAt t f m s ∷ more) where
+        -- when the step is written, those after it are left
+        pieces-on : Laying ps₀ (pieces t f m) ps′ (r′ .pieces) (gather piecesOf more)
+        pieces-on =
+            laying-on (g .pieces) (piecesOf (stepAt t f m s)) (gather piecesOf more)
+            (ap (gather piecesOf) e ∙ gather-more piecesOf (stepAt t f m s) more) room (d .pieces) (d .wrote)
+
+        errors-on : Left t f (fresh k es₀) (slots t f m) (notedBy r′ es′) (gather stepSlots more)
+        errors-on = left-on t f (stepSlots (stepAt t f m s)) (rw (e, gather-more stepSlots (stepAt t f m s) more) at (g .errors)) (d .noted)
+
+      module _ {o : Turn} {ps′ es′ : List ℕ} (h : 0 < left) (d : Turned t f m s r ps es o ps′ es′) where
+        -- reading goes on
+        pub going-on : o .more ≡ true → Going t f m k ps₀ es₀ ps′ es′ (o .state) (o .marks) (left - 1)
+        going-on y =
+            let to = d .on y in
+            let more = stepsFrom (left - 1) t f m (o .state) in
+            let e = steps-more t f m left s h to in
+            record {
+              pieces = pieces-on (d .stepped) more e;
+              errors = errors-on (d .stepped) more e;
+              next = omega (arith, g .next, step-next t f m s to);
+            }
+
+        -- it is over
+        pub going-over : o .more ≡ false → Ran t f m k ps₀ es₀ (o .marks) ps′ es′
+        unfolding gather
+        going-over n =
+            let e = steps-over t f m left s h (d .over n) in
+            ran (pieces-on (d .stepped) [] e) (errors-on (d .stepped) [] e)
+
+-- TWO RUNS
+no-faults : (xs : List Fault) → length xs ≡ 0 → xs ≡ []
+no-faults [] e = refl
+no-faults (x ∷ xs) e = absurd (omega arith)
+
+module _ (t : List ℕ) (f : Frame) (m : Mode) {ps es ps₁ es₁ : List ℕ} {r : Marks} (room : 16 * length (errors t f m) ≤ length es)
+    (g : Ran t f m 0 ps es r ps₁ es₁) where
+  abbrev front : List Fault
+  front = fronts (slots t f m)
+
+  abbrev back : List Fault
+  back = backs (slots t f m)
+
+  -- the first counts those of the front, and writes those of the back
+  abbrev first : Noted
+  first = notes t f (fresh 0 es) (slots t f m)
+
+  first-counted : Counted t f (fresh 0 es) (slots t f m) first
+  first-counted =
+      let c = parts-count t f m in
+      notes-counted t f (fresh 0 es) (slots t f m) refl (record { back = omega arith; front = omega arith; count = omega arith })
+
+  pub first-fronts : r .fronts ≡ length front
+  first-fronts = omega (arith, ap (λ (o : Noted). o .fronts) (g .noted), first-counted .fronts)
+
+  pub first-high : r .high ≡ length back
+  first-high = omega (arith, ap (λ (o : Noted). o .high) (g .noted), first-counted .high)
+
+  pub first-errors : r .fronts + r .high ≡ length (errors t f m)
+  first-errors = omega (arith, first-fronts, first-high, parts-count t f m)
+
+  first-list : es₁ ≡ over (inWords t f back) es
+  first-list = ap (λ (o : Noted). o .list) (g .noted) ∙ first-counted .list ∙ laid-first es (inWords t f back)
+
+  -- where none goes to the front that is all
+  pub filled-once : r .fronts ≡ 0 → Fills t f m ps ps₁ es es₁ (record { pieces = r .pieces; errors = r .fronts + r .high })
+  unfolding reversed
+  filled-once z =
+      let none : front ≡ [] = no-faults front (omega (arith, first-fronts)) in
+      let all : errorsIn t f m ≡ inWords t f back = errors-words t f m ∙ rw none in
+      record {
+        pieces = g .pieces;
+        errors = first-errors;
+        wrote-pieces = g .wrote;
+        wrote-errors = first-list ∙ rw all;
+      }
+
+  -- else the second writes each to its place
+  module _ {r₂ : Marks} {ps₂ es₂ : List ℕ} (d : Ran t f m (r .fronts) ps₁ es₁ r₂ ps₂ es₂) (same : length es₁ ≡ length es) where
+    second-list : es₂ ≡ over (errorsIn t f m) es₁
+    second-list =
+        let c = parts-count t f m in
+        let a = first-fronts in
+        let z : 16 * (r .fronts - length front) ≡ 0 = omega arith in
+        let nothing : es₁ ≡ laid es₁ (16 * r .fronts) (inWords t f []) = rw (words-none t f) (sym (laid-none es₁ (16 * r .fronts))) in
+        let placed = notes-placed t f es₁ [] (fresh (r .fronts) es₁) (slots t f m) nothing (omega arith) (omega arith) (omega arith) in
+        ap (λ (o : Noted). o .list) (d .noted) ∙ placed ∙ rw (z, errors-words t f m) (laid-first es₁ (inWords t f (reversed front ++ back)))
+
+    fewer : length (inWords t f back) ≤ length (errorsIn t f m)
+    fewer =
+        omega (
+          arith,
+          words-length t f back,
+          ap length (errors-words t f m),
+          words-length t f (reversed front ++ back),
+          length-append (reversed front) back,
+        )
+
+    pub filled-twice : Fills t f m ps ps₂ es es₂ (record { pieces = r .pieces; errors = r .fronts + r .high })
+    filled-twice =
+        record {
+          pieces = g .pieces;
+          errors = first-errors;
+          wrote-pieces = d .wrote ∙ rw (g .wrote) (over-again ps (piecesIn t f m) (piecesIn t f m) (omega arith));
+          wrote-errors = second-list ∙ rw first-list (over-again es (inWords t f back) (errorsIn t f m) fewer);
+        }

@@ -1,0 +1,153 @@
+-- `fills::turns::brace_turn` meets its contract: what the quick lane tells is the placeholder there, and anything else is the plain step.
+use borrow.Author.Needs.{needs}
+use native.Mathlib.Omega.{arith}
+use mathlib.Core.Path.{_∙_}
+use denote.Ref.{now}
+use Rattle.placeholder.specs.declared.Mode.{Mode}
+use Rattle.fills.proofs.Stepping.{argument-room, stepped-told, told-on, told-sound, step-told, turned-on}
+use Rattle.fills.proofs.turns.brace_turn.Statement.{statement}
+use Rattle.fills.proofs.turns.brace_turn.Tie as tie
+
+enum-told : tie.Need-enum-told
+enum-told c = search needs
+
+add-byte : tie.Need-add-byte
+add-byte c = omega (arith, c .before .before .before .before .before .pre .0 .text, c .before .before .before .before .before .pre .4)
+
+byte-requires : tie.Need-byte-requires
+byte-requires c κs = search needs
+
+plain-turn-requires : tie.Need-plain-turn-requires
+plain-turn-requires c κs =
+    (c .before .before .before .before .before .before .before .before .before .pre .0, c .before .before .before .before .before .before .before .before .before .pre .1, c .before .before .before .before .before .before .before .before .before .pre .2)
+
+same-length : tie.Need-same-length
+same-length c = search needs
+
+same-length-2 : tie.Need-same-length-2
+same-length-2 c = search needs
+
+returns : tie.Need-returns
+returns c = c .before .before .before .before .plain-turn .ensures
+
+add-tell : tie.Need-add-tell
+add-tell c =
+    omega (arith, c .before .before .before .before .before .before .before .pre .0 .text, c .before .before .before .before .before .before .before .pre .4)
+
+tell-requires : tie.Need-tell-requires
+tell-requires c κs =
+    record { within = omega (arith, c .before .before .before .before .before .before .before .pre .4); small = c .before .before .before .before .before .before .before .pre .0 .text }
+
+put-told-requires : tie.Need-put-told-requires
+put-told-requires c κs =
+    let a = c .before .before .before .before .before .before .before .before .before .before .args in
+    let told = c .before .before .tell .ensures in
+    let step = step-told (now (a .text)) (a .frame) (a .state) _ (c .before .before .before .before .before .before .before .before .before .before .pre .4) (c .before .before .before .before .before .before .before .before .before .before .pre .3) (λ e. c .before .before .before .if1 .left (c .before .before .before .before .byte .ensures ∙ e)) told (c .before .if2 .taken) in
+    (c .before .before .before .before .before .before .before .before .before .before .pre .0, told-sound _ _ _ told (c .before .if2 .taken), omega (arith, c .before .before .before .before .before .before .before .before .before .before .pre .0 .text, c .before .before .before .before .before .before .before .before .before .before .pre .4), c .before .before .before .before .before .before .before .before .before .before .pre .1, argument-room (now (a .text)) (a .frame) (rw (c .before .before .before .before .before .enum-told .given .1, ← step) at (c .before .before .before .before .before .before .before .before .before .before .pre .2)))
+
+add-t21 : tie.Need-add-t21
+add-t21 c =
+    let told = c .before .before .before .before .before .before .tell .ensures in
+    omega (arith, c .before .before .before .before .before .before .before .before .before .before .before .before .before .before .pre .0 .text, told .closed (c .before .before .before .before .before .if2 .taken))
+
+next-after-requires : tie.Need-next-after-requires
+next-after-requires c κs = c .before .before .before .before .before .before .before .before .before .before .before .before .before .before .pre .1
+
+one-more-requires : tie.Need-one-more-requires
+one-more-requires c κs =
+    let a = c .before .before .before .before .before .before .before .before .before .before .before .before .before .before .before .args in
+    let told = c .before .before .before .before .before .before .before .tell .ensures in
+    let step = step-told (now (a .text)) (a .frame) (a .state) _ (c .before .before .before .before .before .before .before .before .before .before .before .before .before .before .before .pre .4) (c .before .before .before .before .before .before .before .before .before .before .before .before .before .before .before .pre .3) (λ e. c .before .before .before .before .before .before .before .before .if1 .left (c .before .before .before .before .before .before .before .before .before .byte .ensures ∙ e)) told (c .before .before .before .before .before .before .if2 .taken) in
+    let room = argument-room (now (a .text)) (a .frame) (rw (c .before .before .before .before .before .before .before .before .before .before .enum-told .given .1, ← step) at (c .before .before .before .before .before .before .before .before .before .before .before .before .before .before .before .pre .2)) in
+    omega (arith, c .before .before .before .before .before .before .before .before .before .before .before .before .before .before .before .good)
+
+same-length-3 : tie.Need-same-length-3
+same-length-3 c = search needs
+
+returns-2 : tie.Need-returns-2
+returns-2 c =
+    let a = c .before .before .before .before .before .before .before .before .before .before .before .before .before .before .before .before .args in
+    let told = c .before .before .before .before .before .before .before .before .tell .ensures in
+    let step = step-told (now (a .text)) (a .frame) (a .state) _ (c .before .before .before .before .before .before .before .before .before .before .before .before .before .before .before .before .pre .4) (c .before .before .before .before .before .before .before .before .before .before .before .before .before .before .before .before .pre .3) (λ e. c .before .before .before .before .before .before .before .before .before .if1 .left (c .before .before .before .before .before .before .before .before .before .before .byte .ensures ∙ e)) told (c .before .before .before .before .before .before .before .if2 .taken) in
+    rw (c .before .before .before .before .before .before .before .before .before .before .before .enum-told .given .1)
+    (turned-on (now (a .text)) (a .frame) Mode.Format (a .state) step (stepped-told (now (a .text)) (a .frame) (a .state .at .0) (a .state .next) _ (c .one-more .ensures) (c .before .before .before .before .before .put-told .ensures))
+    (told-on (now (a .text)) (a .frame) (a .state .at .0) (a .state .next) _ (c .before .next-after .ensures)))
+
+plain-turn-requires-2 : tie.Need-plain-turn-requires-2
+plain-turn-requires-2 c κs =
+    (c .before .before .before .before .before .before .before .before .before .before .before .pre .0, c .before .before .before .before .before .before .before .before .before .before .before .pre .1, c .before .before .before .before .before .before .before .before .before .before .before .pre .2)
+
+enum-told-2 : tie.Need-enum-told-2
+enum-told-2 c = search needs
+
+plain-turn-requires-3 : tie.Need-plain-turn-requires-3
+plain-turn-requires-3 c κs =
+    (c .before .before .before .before .before .before .before .pre .0, c .before .before .before .before .before .before .before .pre .1, c .before .before .before .before .before .before .before .pre .2)
+
+enum-told-3 : tie.Need-enum-told-3
+enum-told-3 c = search needs
+
+plain-turn-requires-4 : tie.Need-plain-turn-requires-4
+plain-turn-requires-4 c κs =
+    (c .before .before .before .before .before .before .before .pre .0, c .before .before .before .before .before .before .before .pre .1, c .before .before .before .before .before .before .before .pre .2)
+
+same-length-4 : tie.Need-same-length-4
+same-length-4 c = search needs
+
+same-length-5 : tie.Need-same-length-5
+same-length-5 c = search needs
+
+returns-3 : tie.Need-returns-3
+returns-3 c = c .before .before .before .before .plain-turn2 .ensures
+
+same-length-6 : tie.Need-same-length-6
+same-length-6 c = search needs
+
+same-length-7 : tie.Need-same-length-7
+same-length-7 c = search needs
+
+returns-4 : tie.Need-returns-4
+returns-4 c = c .before .before .before .before .plain-turn3 .ensures
+
+same-length-8 : tie.Need-same-length-8
+same-length-8 c = search needs
+
+same-length-9 : tie.Need-same-length-9
+same-length-9 c = search needs
+
+returns-5 : tie.Need-returns-5
+returns-5 c = c .before .before .before .before .plain-turn4 .ensures
+
+pub brace-turn-spec : {M : Type 1} → statement M
+brace-turn-spec =
+    tie.close
+    (tie.spec
+    enum-told
+    add-byte
+    byte-requires
+    plain-turn-requires
+    same-length
+    same-length-2
+    returns
+    add-tell
+    tell-requires
+    put-told-requires
+    add-t21
+    next-after-requires
+    one-more-requires
+    same-length-3
+    returns-2
+    plain-turn-requires-2
+    enum-told-2
+    plain-turn-requires-3
+    enum-told-3
+    plain-turn-requires-4
+    same-length-4
+    same-length-5
+    returns-3
+    same-length-6
+    same-length-7
+    returns-4
+    same-length-8
+    same-length-9
+    returns-5)

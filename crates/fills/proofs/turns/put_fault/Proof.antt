@@ -1,0 +1,96 @@
+-- `fills::turns::put_fault` meets its contract: nothing where nothing is wrong, else one record, by where it goes and whether there is room before the others.
+use borrow.Author.Needs.{needs}
+use native.Mathlib.Omega.{arith}
+use mathlib.Core.Path.{sym, _∙_}
+use borrow.Author.Tests.{not-true, not-false}
+use denote.Ref.{now}
+use Rattle.fills.proofs.Noting.{put-clean, room-back, room-front, put-back, put-front, put-apart}
+use Rattle.fills.proofs.turns.put_fault.Statement.{statement}
+use Rattle.fills.proofs.turns.put_fault.Tie as tie
+
+is-clean-requires : tie.Need-is-clean-requires
+is-clean-requires c κs = search needs
+
+returns : tie.Need-returns
+returns c =
+    let a = c .before .before .before .before .args in
+    put-clean (now (a .text)) (a .frame) (a .marks) (now (a .errors)) (a .fault) (sym (c .before .is-clean .ensures) ∙ c .if1 .taken)
+
+record-of-requires : tie.Need-record-of-requires
+record-of-requires c κs = search needs
+
+is-front-requires : tie.Need-is-front-requires
+is-front-requires c κs = search needs
+
+put-error-requires : tie.Need-put-error-requires
+put-error-requires c κs =
+    let a = c .before .before .before .before .before .before .before .before .args in
+    room-back (now (a .text)) (a .frame) (a .marks) (now (a .errors)) (a .fault) (sym (c .before .before .before .before .before .is-clean .ensures) ∙ c .before .before .before .before .if1 .left)
+    (sym (c .before .before .is-front .ensures) ∙ not-true _ (c .before .if2 .taken)) (c .before .before .before .before .before .before .before .before .pre .1)
+
+add-t13 : tie.Need-add-t13
+add-t13 c = search needs
+
+same-length : tie.Need-same-length
+same-length c = search needs
+
+returns-2 : tie.Need-returns-2
+returns-2 c =
+    let a = c .before .before .before .before .before .before .before .before .before .before .before .before .args in
+    put-back (now (a .text)) (a .frame) (a .marks) (now (a .errors)) (a .fault) (sym (c .before .before .before .before .before .before .before .before .before .is-clean .ensures) ∙ c .before .before .before .before .before .before .before .before .if1 .left) (c .before .before .before .before .before .before .before .record-of .ensures)
+    (sym (c .before .before .before .before .before .before .is-front .ensures) ∙ not-true _ (c .before .before .before .before .before .if2 .taken)) (c .before .before .before .put-error .ensures)
+
+add-t14 : tie.Need-add-t14
+add-t14 c = search needs
+
+returns-3 : tie.Need-returns-3
+returns-3 c =
+    let a = c .before .before .before .before .before .before .before .before .before .before .args in
+    put-apart (now (a .text)) (a .frame) (a .marks) (now (a .errors)) (a .fault) (sym (c .before .before .before .before .before .before .before .is-clean .ensures) ∙ c .before .before .before .before .before .before .if1 .left)
+    (sym (c .before .before .before .before .is-front .ensures) ∙ not-false _ (c .before .before .before .if2 .left)) (c .before .if3 .taken)
+
+sub-put-error : tie.Need-sub-put-error
+sub-put-error c = search needs
+
+put-error-requires-2 : tie.Need-put-error-requires-2
+put-error-requires-2 c κs = search needs
+
+sub-t18 : tie.Need-sub-t18
+sub-t18 c = search needs
+
+add-t19 : tie.Need-add-t19
+add-t19 c =
+    let a = c .before .before .before .before .before .before .before .before .before .before .before .before .before .before .before .before .args in
+    let room = room-front (now (a .text)) (a .frame) (a .marks) (now (a .errors)) (a .fault) (sym (c .before .before .before .before .before .before .before .before .before .before .before .before .before .is-clean .ensures) ∙ c .before .before .before .before .before .before .before .before .before .before .before .before .if1 .left)
+    (sym (c .before .before .before .before .before .before .before .before .before .before .is-front .ensures) ∙ not-false _ (c .before .before .before .before .before .before .before .before .before .if2 .left)) (c .before .before .before .before .before .before .before .before .before .before .before .before .before .before .before .before .pre .1) in
+    omega (arith, c .before .before .before .before .before .before .before .before .before .before .before .before .before .before .before .before .good)
+
+same-length-2 : tie.Need-same-length-2
+same-length-2 c = search needs
+
+returns-4 : tie.Need-returns-4
+returns-4 c =
+    let a = c .before .before .before .before .before .before .before .before .before .before .before .before .before .before .before .before .args in
+    put-front (now (a .text)) (a .frame) (a .marks) (now (a .errors)) (a .fault) (sym (c .before .before .before .before .before .before .before .before .before .before .before .before .before .is-clean .ensures) ∙ c .before .before .before .before .before .before .before .before .before .before .before .before .if1 .left) (c .before .before .before .before .before .before .before .before .before .before .before .record-of .ensures)
+    (sym (c .before .before .before .before .before .before .before .before .before .before .is-front .ensures) ∙ not-false _ (c .before .before .before .before .before .before .before .before .before .if2 .left)) (c .before .before .before .before .before .before .before .if3 .left) (c .before .before .before .before .put-error2 .ensures)
+
+pub put-fault-spec : {M : Type 1} → statement M
+put-fault-spec =
+    tie.close
+    (tie.spec
+    is-clean-requires
+    returns
+    record-of-requires
+    is-front-requires
+    put-error-requires
+    add-t13
+    same-length
+    returns-2
+    add-t14
+    returns-3
+    sub-put-error
+    put-error-requires-2
+    sub-t18
+    add-t19
+    same-length-2
+    returns-4)

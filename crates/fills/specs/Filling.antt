@@ -1,0 +1,25 @@
+-- A text's pieces and error records, written as numbers over the first of two lists.
+use Prim.Native.Nat.{ℕ}
+use mathlib.Core.Path.{_≡_}
+use mathlib.Core.List.{List}
+use lib.ListN.{length}
+use Rattle.frame.specs.declared.Frame.{Frame}
+use Rattle.placeholder.specs.declared.Mode.{Mode}
+use Rattle.reading.specs.Lists.{gather, pieces, errors}
+use Rattle.answer.specs.Exits.{over}
+use Rattle.words.specs.Layout.{pieceWords, errorWords}
+use Rattle.fills.specs.declared.run.Filled.{Filled}
+
+-- the numbers of all pieces, and of all error records
+unfoldable pub piecesIn : List ℕ → Frame → Mode → List ℕ
+piecesIn t f m = gather pieceWords (pieces t f m)
+
+unfoldable pub errorsIn : List ℕ → Frame → Mode → List ℕ
+errorsIn t f m = gather errorWords (errors t f m)
+
+-- both lists are filled, and r says how many records they have
+pub record Fills (t : List ℕ) (f : Frame) (m : Mode) (ps ps′ es es′ : List ℕ) (r : Filled) : Type 0 where
+  pub pieces : r .pieces ≡ length (pieces t f m)
+  pub errors : r .errors ≡ length (errors t f m)
+  pub wrote-pieces : ps′ ≡ over (piecesIn t f m) ps
+  pub wrote-errors : es′ ≡ over (errorsIn t f m) es

@@ -1,0 +1,148 @@
+-- What the functions that write a step come to, part by part. Rests on words' Layout, quick's Tellings and reading's Steps, Faults and Lists.
+use Prim.Native.Nat.{ℕ, _+_, _-_, _*_, _≤_, _<_}
+use mathlib.Core.Path.{_≡_}
+use mathlib.Core.Bool.{true, false}
+use mathlib.Core.List.{List, [], _∷_, _++_}
+use lib.Dec.{eqb}
+use lib.ListN.{length}
+use Rattle.unicode.specs.Choice.{pick}
+use Rattle.frame.specs.Places.{place, rangeOf}
+use Rattle.frame.specs.Spans.{spanBetween}
+use Rattle.frame.specs.declared.Frame.{Frame}
+use Rattle.scan.specs.declared.Fault.{Fault}
+use Rattle.placeholder.specs.Arguments.{resolved}
+use Rattle.placeholder.specs.Recovery.{isClean}
+use Rattle.placeholder.specs.declared.Mode.{Mode}
+use Rattle.placeholder.specs.declared.Place.{Place}
+use Rattle.reading.specs.Faults.{stepSlots, wrong}
+use Rattle.reading.specs.Lists.{gather, piecesOf, frontOnly, backOnly, pieces}
+use Rattle.reading.specs.Records.{isFront, recordOf}
+use Rattle.reading.specs.Steps.{stepAt, onward, reading}
+use Rattle.reading.specs.declared.ErrorRecord.{ErrorRecord}
+use Rattle.reading.specs.declared.Onward.{Onward}
+use Rattle.reading.specs.declared.State.{State}
+use Rattle.reading.specs.declared.Step.{Step}
+use Rattle.answer.specs.Exits.{over}
+use Rattle.quick.specs.Tellings.{foundOf}
+use Rattle.quick.specs.declared.Part.{Part}
+use Rattle.quick.specs.declared.Told.{Told}
+use Rattle.words.specs.Laid.{laid}
+use Rattle.words.specs.Layout.{headWords, placeTag, placeWords, pieceWords, errorWords}
+use Rattle.fills.specs.Filling.{piecesIn}
+use Rattle.fills.specs.declared.turns.Marks.{Marks}
+use Rattle.fills.specs.declared.turns.Turn.{Turn}
+
+-- WHAT IS TOLD: its kinds are the layout's tags, and it stands within the text
+pub record Sound (t : List ℕ) (x : Told) : Type 0 where
+  pub placed : x .place .kind ≤ 2
+  pub wide : x .spec .width .kind ≤ 2
+  pub precise : x .spec .precision .kind ≤ 3
+  pub reached : x .to < length t
+  pub closed : x .close < length t
+
+-- the place that starts at a byte; one that is not written takes the argument's number
+unfoldable pub placeOf : ℕ → Part → ℕ → Place
+placeOf at p n = resolved (foundOf at p) n .place
+
+-- the first eight numbers: the argument's bytes, its place and the place's span
+unfoldable pub toldHead : List ℕ → Frame → ℕ → Told → ℕ → List ℕ
+toldHead t f brace x n =
+    headWords 1 (rangeOf (place brace) (place (x .close + 1))) (placeTag (placeOf (brace + 1) (x .place) n)) ++
+    placeWords (placeOf (brace + 1) (x .place) n) (spanBetween t f (place (brace + 1)) (place (x .to)))
+
+-- ERROR RECORDS: the list, where its records begin and end, and how many of the front were met
+pub record Noted : Type 0 where
+  pub low : ℕ
+  pub high : ℕ
+  pub fronts : ℕ
+  pub list : List ℕ
+
+abbrev pub notedBy : Marks → List ℕ → Noted
+notedBy m es = record { low = m .low; high = m .high; fronts = m .fronts; list = es }
+
+-- a record of the back goes after those that are written
+abbrev pub atBack : ErrorRecord → Noted → Noted
+atBack e s =
+    record {
+      low = s .low;
+      high = s .high + 1;
+      fronts = s .fronts;
+      list = laid (s .list) (16 * s .high) (errorWords e);
+    }
+
+-- one of the front before them, and where there is no room before them it is only counted
+abbrev pub counted : Noted → Noted
+counted s = record { low = 0; high = s .high; fronts = s .fronts + 1; list = s .list }
+
+abbrev pub atFront : ErrorRecord → Noted → Noted
+atFront e s =
+    record {
+      low = s .low - 1;
+      high = s .high;
+      fronts = s .fronts + 1;
+      list = laid (s .list) (16 * (s .low - 1)) (errorWords e);
+    }
+
+-- a fault's record; nothing where nothing is wrong
+unfoldable pub note : List ℕ → Frame → Noted → Fault → Noted
+note t f s x =
+    pick (isClean x) s
+    (pick (isFront x) (pick (eqb (s .low) 0) (counted s) (atFront (recordOf t f x) s))
+    (atBack (recordOf t f x) s))
+
+-- those of some faults, one after the other
+unfoldable pub notes : List ℕ → Frame → Noted → List Fault → Noted
+notes t f s [] = s
+notes t f s (x ∷ xs) = notes t f (note t f s x) xs
+
+-- what of them goes to the front, and what to the back
+abbrev pub fronts : List Fault → List Fault
+fronts xs = frontOnly (wrong xs)
+
+abbrev pub backs : List Fault → List Fault
+backs xs = backOnly (wrong xs)
+
+-- the list has room for them
+pub record Room (s : Noted) (xs : List Fault) : Type 0 where
+  pub back : 16 * (s .high + length (backs xs)) ≤ length (s .list)
+  pub front : 16 * s .low ≤ length (s .list)
+  pub count : s .fronts + length (fronts xs) ≤ length (s .list)
+
+-- some faults' records are written, and no piece
+pub record Notes (t : List ℕ) (f : Frame) (m : Marks) (es : List ℕ) (xs : List Fault) (r : Marks) (es′ : List ℕ) : Type 0 where
+  pub pieces : r .pieces ≡ m .pieces
+  pub noted : notedBy r es′ ≡ notes t f (notedBy m es) xs
+
+-- one more piece
+abbrev pub oneMore : Marks → Marks
+oneMore m = record { pieces = m .pieces + 1; low = m .low; high = m .high; fronts = m .fronts }
+
+-- A STEP: both lists have room for what it gives
+pub record StepRoom (x : Step) (m : Marks) (ps es : List ℕ) : Type 0 where
+  pub pieces : 40 * (m .pieces + length (piecesOf x)) ≤ length ps
+  pub errors : Room (notedBy m es) (stepSlots x)
+
+-- its piece and its records are written
+pub record Stepped (t : List ℕ) (f : Frame) (x : Step) (m : Marks) (ps es : List ℕ) (r : Marks) (ps′ es′ : List ℕ) : Type 0 where
+  pub pieces : r .pieces ≡ m .pieces + length (piecesOf x)
+  pub wrote : ps′ ≡ laid ps (40 * m .pieces) (gather pieceWords (piecesOf x))
+  pub noted : notedBy r es′ ≡ notes t f (notedBy m es) (stepSlots x)
+
+-- and reading goes on as it does after the step
+pub record Turned (t : List ℕ) (f : Frame) (m : Mode) (s : State) (k : Marks) (ps es : List ℕ) (r : Turn) (ps′ es′ : List ℕ) : Type 0 where
+  pub stepped : Stepped t f (stepAt t f m s) k ps es (r .marks) ps′ es′
+  pub on : r .more ≡ true → onward (s .next) (stepAt t f m s) ≡ Onward.To (r .state)
+  pub over : r .more ≡ false → onward (s .next) (stepAt t f m s) ≡ Onward.Over
+
+-- A WHOLE TEXT: all pieces, and the records as they are noted one after the other, with room before them for some of the front
+abbrev pub fresh : ℕ → List ℕ → Noted
+fresh k es = record { low = k; high = k; fronts = 0; list = es }
+
+-- everything that a reading may have found wrong, the clean ones too
+unfoldable pub slots : List ℕ → Frame → Mode → List Fault
+slots t f m = gather stepSlots (reading t f m)
+
+pub record Ran (t : List ℕ) (f : Frame) (m : Mode) (k : ℕ) (ps es : List ℕ) (r : Marks) (ps′ es′ : List ℕ) : Type 0 where
+  pub pieces : r .pieces ≡ length (pieces t f m)
+  pub wrote : ps′ ≡ over (piecesIn t f m) ps
+  pub noted : notedBy r es′ ≡ notes t f (fresh k es) (slots t f m)

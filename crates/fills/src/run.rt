@@ -1,0 +1,70 @@
+// A text's pieces and error records, written over the first numbers of two lent lists.
+use crate::turns::Marks;
+use crate::turns::next_turn;
+use frame::Frame;
+use frame::TextPlace;
+use placeholder::Mode;
+use reading::State;
+ghost use Prim.Native.Nat.{_*_, _≤_};
+ghost use lib.ListN.{length};
+ghost use Rattle.frame.specs.Spans.{Small};
+ghost use Rattle.reading.specs.Lists.{pieces as piecesOf, errors as errorsOf};
+ghost use Rattle.fills.specs.Filling.{Fills};
+ghost use Rattle.fills.specs.Turning.{fronts as frontsOf, slots, Ran};
+
+// How many pieces and error records a text has.
+pub struct Filled {
+    pub pieces: usize,
+    pub errors: usize,
+}
+
+// Writes both lists. Where `fronts` is how many records go to the front, each record goes to its own place at once; where it is 0, those of the
+// front are only counted.
+fn run(
+    text: &[u8],
+    frame: Frame,
+    mode: Mode,
+    fronts: usize,
+    pieces: &mut [u32],
+    errors: &mut [u32],
+) -> Marks
+    requires { ⌜ Small (now text) frame × (40 * length (piecesOf (now text) frame mode) ≤ length (now pieces)) × (16 * length (errorsOf (now text) frame mode) ≤ length (now errors)) × (fronts ≤ length (frontsOf (slots (now text) frame mode))) ⌝ }
+    ensures { λ r. ⌜ Ran (now (text .entry)) frame mode fronts (now (pieces .entry)) (now (errors .entry)) r (now (pieces .exit)) (now (errors .exit)) ⌝ }
+{
+    let mut state = State {
+        at: TextPlace(0),
+        next: 0,
+    };
+    let mut marks = Marks {
+        pieces: 0,
+        low: fronts,
+        high: fronts,
+        fronts: 0,
+    };
+    let mut left = text.len() + 1;
+    while 0 < left {
+        let turn = next_turn(text, frame, mode, state, &mut *pieces, &mut *errors, marks);
+        marks = turn.marks;
+        if !turn.more {
+            return marks;
+        }
+        state = turn.state;
+        left -= 1;
+    }
+    marks
+}
+
+// The pieces and the error records of a text, and how many there are. A text without records of the front is read once.
+pub fn fill(text: &[u8], frame: Frame, mode: Mode, pieces: &mut [u32], errors: &mut [u32]) -> Filled
+    requires { ⌜ Small (now text) frame × (40 * length (piecesOf (now text) frame mode) ≤ length (now pieces)) × (16 * length (errorsOf (now text) frame mode) ≤ length (now errors)) ⌝ }
+    ensures { λ r. ⌜ Fills (now (text .entry)) frame mode (now (pieces .entry)) (now (pieces .exit)) (now (errors .entry)) (now (errors .exit)) r ⌝ }
+{
+    let first = run(text, frame, mode, 0, &mut *pieces, &mut *errors);
+    if 0 < first.fronts {
+        run(text, frame, mode, first.fronts, pieces, errors);
+    }
+    Filled {
+        pieces: first.pieces,
+        errors: first.fronts + first.high,
+    }
+}

@@ -1,0 +1,514 @@
+// One step of a reading: its piece and its error records, written.
+use frame::Frame;
+use frame::Span;
+use frame::TextPlace;
+use placeholder::ArgumentFaults;
+use placeholder::Mode;
+use placeholder::whole::Closing;
+use quick::Kind;
+use quick::Part;
+use quick::SpecTold;
+use quick::Told;
+use reading::Onward;
+use reading::State;
+use reading::Step;
+use scan::Fault;
+use words::align_word;
+use words::bit;
+use words::low;
+use words::put_argument;
+use words::put_error;
+use words::put_literal;
+use words::put_zeros;
+use words::put4;
+use words::sign_word;
+ghost use mathlib.Core.Path.{_≡_};
+ghost use mathlib.Core.Bool.{true, false};
+ghost use mathlib.Core.List.{[], _∷_, _++_};
+ghost use Prim.Native.Nat.{_+_, _*_, _≤_, _<_};
+ghost use lib.Dec.{eqb};
+ghost use lib.ListN.{length, getD};
+ghost use Rattle.unicode.specs.Choice.{pick};
+ghost use Rattle.unicode.specs.Utf8.{peekAt};
+ghost use Rattle.frame.specs.Places.{place as placeAt};
+ghost use Rattle.frame.specs.Spans.{Small};
+ghost use Rattle.placeholder.specs.Specs.{noSpec};
+ghost use Rattle.reading.specs.Faults.{argumentSlots, closingSlots};
+ghost use Rattle.reading.specs.Steps.{stepAt};
+ghost use Rattle.quick.specs.Tellings.{codeSeen, fillOf, countOf, countSpan, kindSpan, afterStar, specOf, argumentOf, nextOf};
+ghost use Rattle.words.specs.Laid.{laid};
+ghost use Rattle.words.specs.Layout.{lowOf, four, placeWords, fillWords, spanWords, countWords, specWords, argumentWords};
+ghost use Rattle.fills.specs.Turning.{Sound, placeOf, toldHead, notedBy, Room, Notes, oneMore, StepRoom, Stepped, Turned};
+
+// What is written: how many pieces, where the error records begin and end, and how many records of the front were met.
+pub struct Marks {
+    pub pieces: usize,
+    pub low: usize,
+    pub high: usize,
+    pub fronts: usize,
+}
+
+// Whether reading goes on, where it stands, and what is written.
+pub struct Turn {
+    pub more: bool,
+    pub state: State,
+    pub marks: Marks,
+}
+
+// The place of what is told, which starts at `at`.
+fn put_told_place(out: &mut [u32], k: usize, place: Part, at: usize, next: usize, span: Span)
+    requires { ⌜ k + 4 ≤ length (now out) ⌝ }
+    ensures { λ _. ⌜ now (out .exit) ≡ laid (now (out .entry)) k (placeWords (placeOf at place next) span) ⌝ }
+{
+    let start = low(span.start.0);
+    let end = low(span.end.0);
+    if place.kind == 0 {
+        put4(out, k, low(next), 0, start, end);
+        return;
+    }
+    if place.kind == 1 {
+        put4(out, k, place.value as u32, 0, start, end);
+        return;
+    }
+    put4(out, k, low(at), low(place.end), start, end);
+}
+
+// The first eight numbers of what is told: its range, its place and the place's span.
+fn put_told_head(
+    out: &mut [u32],
+    k: usize,
+    text: &[u8],
+    frame: Frame,
+    brace: usize,
+    told: Told,
+    next: usize,
+)
+    requires { ⌜ Small (now text) frame × Sound (now text) told × (brace < 65535) × (k + 8 ≤ length (now out)) ⌝ }
+    ensures { λ _. ⌜ now (out .exit) ≡ laid (now (out .entry)) k (toldHead (now (text .entry)) frame brace told next) ⌝ }
+{
+    let place = told.place;
+    let span = frame::span_between(text, frame, TextPlace(brace + 1), TextPlace(told.to));
+    put4(
+        &mut *out,
+        k,
+        1,
+        low(brace),
+        low(told.close + 1),
+        place.kind as u32,
+    );
+    put_told_place(out, k + 4, place, brace + 1, next, span);
+}
+
+// What is told without a colon, as the n-th piece.
+fn put_bare(
+    out: &mut [u32],
+    n: usize,
+    text: &[u8],
+    frame: Frame,
+    brace: usize,
+    told: Told,
+    next: usize,
+)
+    requires { ⌜ Small (now text) frame × Sound (now text) told × (brace < 65535) × (40 * n + 40 ≤ length (now out)) ⌝ }
+    ensures { λ _. ⌜ now (out .exit) ≡ laid (now (out .entry)) (40 * n) (toldHead (now (text .entry)) frame brace told next ++ specWords (noSpec (placeAt (told .to)) next .spec)) ⌝ }
+{
+    let k = 40 * n;
+    let to = low(told.to);
+    put_told_head(&mut *out, k, text, frame, brace, told, next);
+    put_zeros(&mut *out, k + 8);
+    put4(&mut *out, k + 32, to, to, 0, 0);
+    put4(out, k + 36, 0, 0, 0, 0);
+}
+
+// The fill between two places; none where they are the same.
+fn put_told_fill(out: &mut [u32], k: usize, text: &[u8], frame: Frame, at: usize, past: usize)
+    requires { ⌜ Small (now text) frame × (k + 4 ≤ length (now out)) ⌝ }
+    ensures { λ _. ⌜ now (out .exit) ≡ laid (now (out .entry)) k (fillWords (fillOf (now (text .entry)) frame at past)) ⌝ }
+{
+    if at == past {
+        put4(out, k, 0, 0, 0, 0);
+        return;
+    }
+    let span = scan::span_across(text, frame, TextPlace(at), TextPlace(at));
+    put4(
+        out,
+        k,
+        1,
+        code_at(text, at),
+        low(span.start.0),
+        low(span.end.0),
+    );
+}
+
+// The code of the character at a place; 0 at the end.
+fn code_at(text: &[u8], at: usize) -> u32
+    ensures { λ r. ⌜ r ≡ codeSeen (peekAt (now (text .entry)) at) ⌝ }
+{
+    match unicode::peek(text, at) {
+        unicode::Seen::Char { code, width: _ } => code,
+        unicode::Seen::End => 0,
+    }
+}
+
+// A count's number: the next argument's for a star.
+fn count_value(part: Part, next: usize) -> u32
+    ensures { λ r. ⌜ r ≡ pick (eqb (part .kind) 3) (lowOf next) (part .value) ⌝ }
+{
+    if part.kind == 3 {
+        return low(next);
+    }
+    part.value as u32
+}
+
+// A count that starts at `from`.
+fn put_told_count(
+    out: &mut [u32],
+    k: usize,
+    text: &[u8],
+    frame: Frame,
+    from: usize,
+    part: Part,
+    next: usize,
+)
+    requires { ⌜ Small (now text) frame × (part .kind ≤ 3) × (k + 8 ≤ length (now out)) ⌝ }
+    ensures { λ _. ⌜ now (out .exit) ≡ laid (now (out .entry)) k (countWords (countOf next part) (countSpan (now (text .entry)) frame from part)) ⌝ }
+{
+    if part.kind == 0 {
+        put4(&mut *out, k, 0, 0, 0, 0);
+        put4(out, k + 4, 0, 0, 0, 0);
+        return;
+    }
+    let span = frame::span_between(text, frame, TextPlace(from), TextPlace(part.end));
+    put4(
+        &mut *out,
+        k,
+        part.kind as u32,
+        count_value(part, next),
+        0,
+        0,
+    );
+    put4(out, k + 4, 0, 1, low(span.start.0), low(span.end.0));
+}
+
+// A type that starts at `start`.
+fn put_told_kind(out: &mut [u32], k: usize, text: &[u8], frame: Frame, start: usize, kind: Kind)
+    requires { ⌜ Small (now text) frame × (k + 8 ≤ length (now out)) ⌝ }
+    ensures { λ _. ⌜ now (out .exit) ≡ laid (now (out .entry)) k (four (lowOf start) (lowOf (kind .end)) 0 0 ++ spanWords 0 (kindSpan (now (text .entry)) frame start kind)) ⌝ }
+{
+    put4(&mut *out, k, low(start), low(kind.end), 0, 0);
+    if kind.word {
+        let span = frame::span_between(text, frame, TextPlace(start), TextPlace(kind.end));
+        put4(out, k + 4, 0, 1, low(span.start.0), low(span.end.0));
+        return;
+    }
+    put4(out, k + 4, 0, 0, 0, 0);
+}
+
+// The spec that starts at `at`, after its colon.
+fn put_told_spec(
+    out: &mut [u32],
+    k: usize,
+    text: &[u8],
+    frame: Frame,
+    at: usize,
+    spec: SpecTold,
+    next: usize,
+)
+    requires { ⌜ Small (now text) frame × (spec .width .kind ≤ 2) × (spec .precision .kind ≤ 3) × (k + 32 ≤ length (now out)) ⌝ }
+    ensures { λ _. ⌜ now (out .exit) ≡ laid (now (out .entry)) k (specWords (specOf (now (text .entry)) frame at next spec)) ⌝ }
+{
+    let align = spec.align;
+    let sign = spec.sign;
+    let width = spec.width;
+    let precision = spec.precision;
+    let kind = spec.kind;
+    put_told_fill(&mut *out, k, text, frame, at, spec.fill);
+    put4(
+        &mut *out,
+        k + 4,
+        align_word(align),
+        sign_word(sign),
+        bit(spec.alternate),
+        bit(spec.zero),
+    );
+    put_told_count(&mut *out, k + 8, text, frame, spec.from, width, next);
+    put_told_count(&mut *out, k + 16, text, frame, width.end, precision, next);
+    put_told_kind(out, k + 24, text, frame, precision.end, kind);
+}
+
+// The next argument's number after a star.
+fn after_star(part: Part, next: usize) -> usize
+    requires { ⌜ next < 0xFFFFE ⌝ }
+    ensures { λ r. ⌜ r ≡ afterStar next part ⌝ }
+{
+    if part.kind == 3 { next + 1 } else { next }
+}
+
+// The next argument's number after what is told.
+fn next_after(told: Told, next: usize) -> usize
+    requires { ⌜ next < 0xFFFFE ⌝ }
+    ensures { λ r. ⌜ r ≡ nextOf next told ⌝ }
+{
+    let spec = told.spec;
+    let place = told.place;
+    let after = after_star(spec.precision, next);
+    if place.kind == 0 { after + 1 } else { after }
+}
+
+// What is told, as the n-th piece.
+fn put_told(
+    out: &mut [u32],
+    n: usize,
+    text: &[u8],
+    frame: Frame,
+    brace: usize,
+    told: Told,
+    next: usize,
+)
+    requires { ⌜ Small (now text) frame × Sound (now text) told × (brace < 65535) × (next < 0xFFFFE) × (40 * n + 40 ≤ length (now out)) ⌝ }
+    ensures { λ _. ⌜ now (out .exit) ≡ laid (now (out .entry)) (40 * n) (argumentWords (argumentOf (now (text .entry)) frame brace next told)) ⌝ }
+{
+    let spec = told.spec;
+    let after = after_star(spec.precision, next);
+    if !told.colon {
+        put_bare(out, n, text, frame, brace, told, after);
+        return;
+    }
+    let k = 40 * n;
+    put_told_head(&mut *out, k, text, frame, brace, told, after);
+    put_told_spec(out, k + 8, text, frame, told.to + 1, spec, next);
+}
+
+// A fault's record: one of the front goes before those that are written, if there is room before them, one of the back after them.
+fn put_fault(text: &[u8], frame: Frame, fault: Fault, errors: &mut [u32], marks: Marks) -> Marks
+    requires { ⌜ Small (now text) frame × Room (notedBy marks (now errors)) (fault ∷ []) ⌝ }
+    ensures { λ r. ⌜ Notes (now (text .entry)) frame marks (now (errors .entry)) (fault ∷ []) r (now (errors .exit)) ⌝ }
+{
+    if placeholder::recover::is_clean(fault) {
+        return marks;
+    }
+    let record = reading::faults::record_of(text, frame, fault);
+    if !reading::faults::is_front(fault) {
+        put_error(errors, marks.high, record);
+        return Marks {
+            pieces: marks.pieces,
+            low: marks.low,
+            high: marks.high + 1,
+            fronts: marks.fronts,
+        };
+    }
+    if marks.low == 0 {
+        return Marks {
+            pieces: marks.pieces,
+            low: 0,
+            high: marks.high,
+            fronts: marks.fronts + 1,
+        };
+    }
+    put_error(errors, marks.low - 1, record);
+    Marks {
+        pieces: marks.pieces,
+        low: marks.low - 1,
+        high: marks.high,
+        fronts: marks.fronts + 1,
+    }
+}
+
+// An argument's five.
+fn put_argument_faults(
+    text: &[u8],
+    frame: Frame,
+    faults: ArgumentFaults,
+    errors: &mut [u32],
+    marks: Marks,
+) -> Marks
+    requires { ⌜ Small (now text) frame × Room (notedBy marks (now errors)) (argumentSlots faults) ⌝ }
+    ensures { λ r. ⌜ Notes (now (text .entry)) frame marks (now (errors .entry)) (argumentSlots faults) r (now (errors .exit)) ⌝ }
+{
+    let place = faults.place;
+    let raw = faults.raw;
+    let width = faults.width;
+    let precision = faults.precision;
+    let kind = faults.kind;
+    let marks = put_fault(text, frame, place, &mut *errors, marks);
+    let marks = put_fault(text, frame, raw, &mut *errors, marks);
+    let marks = put_fault(text, frame, width, &mut *errors, marks);
+    let marks = put_fault(text, frame, precision, &mut *errors, marks);
+    put_fault(text, frame, kind, errors, marks)
+}
+
+// Those at a placeholder's end: where its brace is missing, that it is, the word's, the field's five, the suggestion.
+fn put_closing_faults(
+    text: &[u8],
+    frame: Frame,
+    closing: Closing,
+    errors: &mut [u32],
+    marks: Marks,
+) -> Marks
+    requires { ⌜ Small (now text) frame × Room (notedBy marks (now errors)) (closingSlots closing) ⌝ }
+    ensures { λ r. ⌜ Notes (now (text .entry)) frame marks (now (errors .entry)) (closingSlots closing) r (now (errors .exit)) ⌝ }
+{
+    match closing {
+        Closing::Closed(_) => marks,
+        Closing::Missing(missing, on) => {
+            let word = on.word;
+            let field = on.field;
+            let hint = on.hint;
+            let marks = put_fault(text, frame, missing, &mut *errors, marks);
+            let marks = put_fault(text, frame, word, &mut *errors, marks);
+            let marks = put_argument_faults(text, frame, field, &mut *errors, marks);
+            put_fault(text, frame, hint, errors, marks)
+        }
+    }
+}
+
+// One more piece.
+fn one_more(marks: Marks) -> Marks
+    requires { ⌜ marks .pieces < 0xFFFFFFFFFFFFFFF ⌝ }
+    ensures { λ r. ⌜ r ≡ oneMore marks ⌝ }
+{
+    Marks {
+        pieces: marks.pieces + 1,
+        low: marks.low,
+        high: marks.high,
+        fronts: marks.fronts,
+    }
+}
+
+// The step where reading stands, written.
+pub fn next_turn(
+    text: &[u8],
+    frame: Frame,
+    mode: Mode,
+    state: State,
+    pieces: &mut [u32],
+    errors: &mut [u32],
+    marks: Marks,
+) -> Turn
+    requires { ⌜ Small (now text) frame × (state .next < 0xFFFFE) × StepRoom (stepAt (now text) frame mode state) marks (now pieces) (now errors) ⌝ }
+    ensures { λ r. ⌜ Turned (now (text .entry)) frame mode state marks (now (pieces .entry)) (now (errors .entry)) r (now (pieces .exit)) (now (errors .exit)) ⌝ }
+{
+    let at = state.at;
+    let i = at.0;
+    if text.len() <= i {
+        return Turn {
+            more: false,
+            state,
+            marks,
+        };
+    }
+    let b = text[i];
+    if b == b'{' {
+        return brace_turn(text, frame, mode, state, pieces, errors, marks);
+    }
+    if b == b'}' {
+        return plain_turn(text, frame, mode, state, pieces, errors, marks);
+    }
+    let end = scan::string_end(text, at);
+    put_literal(pieces, marks.pieces, i, end.0);
+    Turn {
+        more: true,
+        state: State {
+            at: end,
+            next: state.next,
+        },
+        marks: one_more(marks),
+    }
+}
+
+// The step at an opening brace: the quick lane tells most.
+fn brace_turn(
+    text: &[u8],
+    frame: Frame,
+    mode: Mode,
+    state: State,
+    pieces: &mut [u32],
+    errors: &mut [u32],
+    marks: Marks,
+) -> Turn
+    requires { ⌜ Small (now text) frame × (state .next < 0xFFFFE) × StepRoom (stepAt (now text) frame mode state) marks (now pieces) (now errors) × (getD (now text) (state .at .0) 0 ≡ 0x7B) × (state .at .0 < length (now text)) ⌝ }
+    ensures { λ r. ⌜ Turned (now (text .entry)) frame mode state marks (now (pieces .entry)) (now (errors .entry)) r (now (pieces .exit)) (now (errors .exit)) ⌝ }
+{
+    match mode {
+        Mode::Format => {
+            let i = state.at.0;
+            if unicode::byte(text, i + 1) == b'{' {
+                return plain_turn(text, frame, mode, state, pieces, errors, marks);
+            }
+            let told = quick::tell(text, i + 1);
+            if told.ok {
+                put_told(pieces, marks.pieces, text, frame, i, told, state.next);
+                return Turn {
+                    more: true,
+                    state: State {
+                        at: TextPlace(told.close + 1),
+                        next: next_after(told, state.next),
+                    },
+                    marks: one_more(marks),
+                };
+            }
+            plain_turn(text, frame, mode, state, pieces, errors, marks)
+        }
+        Mode::InlineAsm => plain_turn(text, frame, mode, state, pieces, errors, marks),
+        Mode::Diagnostic => plain_turn(text, frame, mode, state, pieces, errors, marks),
+    }
+}
+
+// A step, written from its record.
+fn put_step(
+    text: &[u8],
+    frame: Frame,
+    step: Step,
+    pieces: &mut [u32],
+    errors: &mut [u32],
+    marks: Marks,
+) -> Marks
+    requires { ⌜ Small (now text) frame × StepRoom step marks (now pieces) (now errors) ⌝ }
+    ensures { λ r. ⌜ Stepped (now (text .entry)) frame step marks (now (pieces .entry)) (now (errors .entry)) r (now (pieces .exit)) (now (errors .exit)) ⌝ }
+{
+    match step {
+        Step::End => marks,
+        Step::Stop(at) => put_fault(text, frame, Fault::Unmatched(at), errors, marks),
+        Step::Literal(view) => {
+            put_literal(pieces, marks.pieces, view.start.0, view.end.0);
+            one_more(marks)
+        }
+        Step::Placeholder(read) => {
+            let argument = read.argument;
+            let faults = read.faults;
+            let closing = read.closing;
+            put_argument(pieces, marks.pieces, argument);
+            let marks = put_argument_faults(text, frame, faults, &mut *errors, one_more(marks));
+            put_closing_faults(text, frame, closing, errors, marks)
+        }
+    }
+}
+
+// The plain step.
+fn plain_turn(
+    text: &[u8],
+    frame: Frame,
+    mode: Mode,
+    state: State,
+    pieces: &mut [u32],
+    errors: &mut [u32],
+    marks: Marks,
+) -> Turn
+    requires { ⌜ Small (now text) frame × (state .next < 0xFFFFE) × StepRoom (stepAt (now text) frame mode state) marks (now pieces) (now errors) ⌝ }
+    ensures { λ r. ⌜ Turned (now (text .entry)) frame mode state marks (now (pieces .entry)) (now (errors .entry)) r (now (pieces .exit)) (now (errors .exit)) ⌝ }
+{
+    let step = reading::steps::step_at(text, frame, mode, state);
+    let after = put_step(text, frame, step, pieces, errors, marks);
+    match reading::steps::go_on(state, step) {
+        Onward::Over => Turn {
+            more: false,
+            state,
+            marks: after,
+        },
+        Onward::To(on) => Turn {
+            more: true,
+            state: on,
+            marks: after,
+        },
+    }
+}

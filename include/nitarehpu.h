@@ -1,0 +1,131 @@
+/* Nitarehpu: the placeholder reader for report templates, for C.
+ *
+ * Reads a template text as the Rust compiler's format-string parser does, and writes what it finds as plain numbers into lists that the caller
+ * lends. No allocation, no global state: calls may run side by side on lists of their own.
+ *
+ * What the caller sees to, and nothing checks:
+ *   - each pointer leads to as many readable (the lists: also writable) elements as the length after it says; with length 0 it may be any non-null
+ *     pointer, or null;
+ *   - no list overlaps another list, the text or the snippet; the text and the snippet may be the same bytes;
+ *   - pieces and errors are aligned for uint32_t; places, lines and answer for size_t.
+ * Every other argument gets a defined answer. The library is for x86-64 Linux.
+ */
+#ifndef NITAREHPU_H
+#define NITAREHPU_H
+
+#include <stddef.h>
+#include <stdint.h>
+
+#ifdef __cplusplus
+extern "C" {
+#endif
+
+/* mode; any other number is refused with 1 */
+enum { NITAREHPU_FORMAT = 0, NITAREHPU_INLINE_ASM = 1, NITAREHPU_DIAGNOSTIC = 2 };
+
+/* What a call answers. A refusal changes no list of records. Checked in this order, 10 before all. */
+enum {
+    NITAREHPU_DONE = 0,
+    NITAREHPU_MODE = 1,        /* the mode is above 2 */
+    NITAREHPU_STYLE = 2,       /* above 255 hashes, or a snippet without a style */
+    NITAREHPU_LONG = 3,        /* the text is over 65,535 bytes, or the snippet over 66,048 */
+    NITAREHPU_UTF8 = 4,        /* the text is not UTF-8: the place is where its longest valid prefix ends */
+    NITAREHPU_NEWLINE = 5,     /* a newline is marked as appended, and the text does not end in one */
+    NITAREHPU_PIECES = 6,      /* the list of pieces is too short; the counts say what is needed */
+    NITAREHPU_ERRORS = 7,      /* the list of errors is */
+    NITAREHPU_PLACES = 8,      /* the list of argument places is */
+    NITAREHPU_LINES = 9,       /* the list of line spans is */
+    NITAREHPU_NO_ANSWER = 10   /* the answer's list has no room for its six numbers: nothing was read */
+};
+
+/* The answer's six numbers: which of the above, the place (of 4, else 0), and how many records each list needs (for 0 and 6 to 9, else 0). */
+enum { NITAREHPU_ANSWER_NUMBERS = 6 };
+
+/* Numbers of a record: a piece's 40 and an error's 16 are laid out as the structs below; a span of the snippet is 2: start, end. */
+enum { NITAREHPU_PIECE_NUMBERS = 40, NITAREHPU_ERROR_NUMBERS = 16, NITAREHPU_SPAN_NUMBERS = 2 };
+
+/* A span of the snippet that may be absent: present is 0 or 1, and without it start and end are 0. */
+
+/* A width or a precision. */
+typedef struct nitarehpu_count {
+    uint32_t kind;             /* 0 implied, 1 fixed, 2 by argument (number$), 3 by star, 4 by name (name$) */
+    uint32_t value;            /* 1: the number; 2, 3: the argument's number; 4: the name's first byte in the text */
+    uint32_t name_end;         /* 4: where the name's bytes end */
+    uint32_t name_span_start;  /* 4: the name's span */
+    uint32_t name_span_end;
+    uint32_t span_present;     /* the whole width, or the precision with its dot */
+    uint32_t span_start;
+    uint32_t span_end;
+} nitarehpu_count_t;
+
+/* A piece. Of a literal the kind, the start and the end are told, and the rest is 0. */
+typedef struct nitarehpu_piece {
+    uint32_t kind;             /* 0 a literal, 1 an argument */
+    uint32_t start;            /* its bytes in the text: of a literal its view, of an argument from its opening brace */
+    uint32_t end;              /* to where reading stood afterwards */
+    uint32_t place;            /* 0 the next argument, 1 by number, 2 by name */
+    uint32_t place_value;      /* 0, 1: the argument's number; 2: the name's first byte in the text */
+    uint32_t place_end;        /* 2: where the name's bytes end */
+    uint32_t place_span_start;
+    uint32_t place_span_end;
+    uint32_t fill_present;
+    uint32_t fill;             /* the fill character's code */
+    uint32_t fill_span_start;
+    uint32_t fill_span_end;
+    uint32_t align;            /* 0 none, 1 left, 2 right, 3 centre */
+    uint32_t sign;             /* 0 none, 1 plus, 2 minus */
+    uint32_t alternate;        /* 1 with `#` */
+    uint32_t zero;             /* 1 with the flag `0` */
+    nitarehpu_count_t width;
+    nitarehpu_count_t precision;
+    uint32_t type_start;       /* the type's bytes in the text; empty where there is none */
+    uint32_t type_end;
+    uint32_t hex;              /* 1 for x?, 2 for X?, else 0 */
+    uint32_t reserved[2];      /* 0 */
+    uint32_t type_span_present;
+    uint32_t type_span_start;
+    uint32_t type_span_end;
+} nitarehpu_piece_t;
+
+/* An error record. */
+typedef struct nitarehpu_error {
+    uint32_t kind;             /* 1 to 15 */
+    uint32_t span_start;
+    uint32_t span_end;
+    uint32_t reserved[2];      /* 0 */
+    uint32_t second_present;
+    uint32_t second_start;
+    uint32_t second_end;
+    uint32_t reserved_quoted;  /* 0 */
+    uint32_t quoted_present;   /* bytes of the text that the message quotes */
+    uint32_t quoted_start;
+    uint32_t quoted_end;
+    uint32_t reserved_suggestion; /* 0 */
+    uint32_t suggestion_present;
+    uint32_t suggestion_start;
+    uint32_t suggestion_end;
+} nitarehpu_error_t;
+
+/* Reads a text.
+ *   snippet     is looked at only if `given` is not 0
+ *   style       0: none; any other: a raw string with `hashes` hashes
+ *   newline     not 0: the text's last newline was appended to it
+ *   pieces, errors, places, lines: the lists, with their lengths in numbers; a rest that is no whole record is left alone
+ *   answer      gets the six numbers
+ * Returns the first of the answer's numbers. Done fills the first records of each list, and the rest stay as they were. With a record for each byte of the
+ * text in pieces and in errors, and no snippet, the text is read once; else it is counted first.
+ */
+uint8_t nitarehpu_read(const uint8_t *text, size_t text_length, const uint8_t *snippet, size_t snippet_length, uint8_t mode, uint8_t style,
+                       size_t hashes, uint8_t given, uint8_t newline, uint32_t *pieces, size_t pieces_length, uint32_t *errors,
+                       size_t errors_length, size_t *places, size_t places_length, size_t *lines, size_t lines_length, size_t *answer,
+                       size_t answer_length);
+
+/* Says how many records each list of the same call would need, with the same refusals 1 to 5 and 10. */
+uint8_t nitarehpu_count(const uint8_t *text, size_t text_length, const uint8_t *snippet, size_t snippet_length, uint8_t mode, uint8_t style,
+                        size_t hashes, uint8_t given, uint8_t newline, size_t *answer, size_t answer_length);
+
+#ifdef __cplusplus
+}
+#endif
+
+#endif

@@ -1,0 +1,160 @@
+//! Measures the reader beside the Rust that it replaces and its peers. All read the same texts in one run, by turns; of many rounds the quickest counts.
+
+mod ours;
+mod peers;
+mod stack;
+mod texts;
+
+use ours::Reader;
+use std::hint::black_box;
+use std::time::Instant;
+use texts::Text;
+
+const SIZE: usize = 60_000;
+const ROUNDS: usize = 40;
+
+/// Nanoseconds of one call.
+fn once(calls: usize, call: &mut dyn FnMut()) -> f64 {
+    let start = Instant::now();
+    for _ in 0..calls {
+        call();
+    }
+    start.elapsed().as_secs_f64() * 1e9 / calls as f64
+}
+
+/// The quickest of many rounds of each call, taken by turns.
+fn quickest<const N: usize>(rounds: usize, calls: usize, mut each: [&mut dyn FnMut(); N]) -> [f64; N] {
+    let mut best = [f64::INFINITY; N];
+    for _ in 0..rounds {
+        for (best, call) in best.iter_mut().zip(each.iter_mut()) {
+            *best = best.min(once(calls, call));
+        }
+    }
+    best
+}
+
+/// A row of the table: what each took, and the ratios to the reader.
+fn row(name: &str, scale: f64, ours: f64, rust: f64, cpp: Option<f64>, sum: f64, doubled: Option<f64>) {
+    let cell = |x: Option<f64>| x.map_or_else(|| "-".to_owned(), |x| format!("{x:.2}"));
+    println!(
+        "| {name} | {:.2} | {:.2} | {} | {:.2} | {:.2} | {} |",
+        ours / scale,
+        rust / scale,
+        cell(cpp.map(|x| x / scale)),
+        sum / scale,
+        rust / ours,
+        cell(doubled),
+    );
+}
+
+fn measured(text: &Text, reader: &mut Reader, rounds: usize, calls: usize) -> (f64, f64, Option<f64>, f64) {
+    let bytes = &text.bytes[..];
+    let string = std::str::from_utf8(bytes).expect("the text is UTF-8");
+    let (number, pieces, errors) = reader.read(bytes);
+    assert_eq!((number, pieces, errors), (0, peers::rust(string).0, peers::rust(string).1), "{}", text.name);
+    let reads = peers::cpp(bytes).is_some();
+    let [ours, rust, cpp, sum] = quickest(
+        rounds,
+        calls,
+        [
+            &mut || {
+                black_box(reader.read(black_box(bytes)));
+            },
+            &mut || {
+                black_box(peers::rust(black_box(string)));
+            },
+            &mut || {
+                if reads {
+                    black_box(peers::cpp(black_box(bytes)));
+                }
+            },
+            &mut || {
+                black_box(peers::sum(black_box(bytes)));
+            },
+        ],
+    );
+    (ours, rust, reads.then_some(cpp), sum)
+}
+
+/// Large texts, in nanoseconds a byte, and how much longer twice the text takes.
+fn large_texts(reader: &mut Reader) {
+    println!("| text, ns a byte | this | the Rust | {{fmt}} | sum of bytes | the Rust : this | twice the text |");
+    println!("|---|---|---|---|---|---|---|");
+    for (text, half) in texts::large(SIZE).iter().zip(texts::large(SIZE / 2)) {
+        // The Rust takes seconds for a large text with errors at the front.
+        let rounds = if text.name == "errors at the front" { 1 } else { ROUNDS };
+        let (ours, rust, cpp, sum) = measured(text, reader, rounds, 1);
+        let (first, ..) = measured(&half, reader, rounds, 1);
+        row(text.name, text.bytes.len() as f64, ours, rust, cpp, sum, Some(ours / first));
+    }
+    let text = texts::broken(SIZE);
+    assert_eq!(reader.read(&text.bytes).0, 4);
+    let [ours, rust, sum] = quickest(
+        ROUNDS,
+        1,
+        [
+            &mut || {
+                black_box(reader.read(black_box(&text.bytes)));
+            },
+            &mut || {
+                black_box(peers::rust_utf8(black_box(&text.bytes)));
+            },
+            &mut || {
+                black_box(peers::sum(black_box(&text.bytes)));
+            },
+        ],
+    );
+    row(text.name, text.bytes.len() as f64, ours, rust, None, sum, None);
+    println!();
+}
+
+/// Small texts with errors at the front: where the Rust's time grows with the square, ours must not be more at any size.
+fn front_errors(reader: &mut Reader) {
+    println!("| errors at the front, ns a byte | this | the Rust | {{fmt}} | sum of bytes | the Rust : this | |");
+    println!("|---|---|---|---|---|---|---|");
+    for size in [2, 16, 128, 1024, 8192] {
+        let text = Text { name: "errors at the front", bytes: "{,".repeat(size / 2).into_bytes() };
+        let (ours, rust, cpp, sum) = measured(&text, reader, 20, (4096 / size).max(1));
+        row(&format!("{size} bytes"), size as f64, ours, rust, cpp, sum, None);
+    }
+    println!();
+}
+
+/// Short templates, in nanoseconds a call.
+fn short_texts(reader: &mut Reader) {
+    println!("| text, ns a call | this | the Rust | {{fmt}} | sum of bytes | the Rust : this | |");
+    println!("|---|---|---|---|---|---|---|");
+    for text in texts::short() {
+        let (ours, rust, cpp, sum) = measured(&text, reader, ROUNDS, 1000);
+        row(text.name, 1.0, ours, rust, cpp, sum, None);
+    }
+    println!();
+}
+
+/// The stack that a call takes: the most over the texts.
+fn stack_of_a_call(reader: &mut Reader) {
+    let mut texts = texts::large(SIZE);
+    texts.extend(texts::short());
+    let most = texts.iter().map(|text| stack::of(&mut || { black_box(reader.read(&text.bytes)); })).max();
+    println!("stack of a call: {} bytes at most over these texts", most.unwrap_or(0));
+}
+
+/// Writes the texts that Python reads too, for the script that times it.
+fn write_texts(folder: &str) -> std::io::Result<()> {
+    for text in texts::large(SIZE).into_iter().chain(texts::short()) {
+        std::fs::write(format!("{folder}/{}.txt", text.name), text.bytes)?;
+    }
+    Ok(())
+}
+
+fn main() -> std::io::Result<()> {
+    if let Some(folder) = std::env::args().nth(1) {
+        write_texts(&folder)?;
+    }
+    let mut reader = Reader::new(1 << 16);
+    large_texts(&mut reader);
+    short_texts(&mut reader);
+    front_errors(&mut reader);
+    stack_of_a_call(&mut reader);
+    Ok(())
+}

@@ -1,0 +1,69 @@
+//! The reader, through its C boundary. The lists are made once, large enough for any text here, and are not cleared between calls.
+
+unsafe extern "C" {
+    fn nitarehpu_read(
+        text: *const u8,
+        text_length: usize,
+        snippet: *const u8,
+        snippet_length: usize,
+        mode: u8,
+        style: u8,
+        hashes: usize,
+        given: u8,
+        newline: u8,
+        pieces: *mut u32,
+        pieces_length: usize,
+        errors: *mut u32,
+        errors_length: usize,
+        places: *mut usize,
+        places_length: usize,
+        lines: *mut usize,
+        lines_length: usize,
+        answer: *mut usize,
+        answer_length: usize,
+    ) -> u8;
+}
+
+pub struct Reader {
+    pieces: Vec<u32>,
+    errors: Vec<u32>,
+    answer: [usize; 6],
+}
+
+impl Reader {
+    /// Lists with room for a record a byte.
+    pub fn new(bytes: usize) -> Self {
+        Reader { pieces: vec![0; 40 * bytes], errors: vec![0; 16 * bytes], answer: [0; 6] }
+    }
+
+    /// Reads a Format text without style or snippet: the answer's number, and how many pieces and errors there are.
+    pub fn read(&mut self, text: &[u8]) -> (u8, usize, usize) {
+        let mut none = [0usize; 2];
+        let mut nothing = [0usize; 2];
+        // SAFETY: each pointer goes with its own length, and no two lists overlap.
+        let number = unsafe {
+            nitarehpu_read(
+                text.as_ptr(),
+                text.len(),
+                text.as_ptr(),
+                0,
+                0,
+                0,
+                0,
+                0,
+                0,
+                self.pieces.as_mut_ptr(),
+                self.pieces.len(),
+                self.errors.as_mut_ptr(),
+                self.errors.len(),
+                none.as_mut_ptr(),
+                0,
+                nothing.as_mut_ptr(),
+                0,
+                self.answer.as_mut_ptr(),
+                6,
+            )
+        };
+        (number, self.answer[2], self.answer[3])
+    }
+}

@@ -1,0 +1,46 @@
+//! The texts that everyone reads.
+
+/// What a text is measured for.
+pub struct Text {
+    pub name: &'static str,
+    pub bytes: Vec<u8>,
+}
+
+/// So many bytes of a part, repeated, with no part cut.
+fn repeated(part: &str, size: usize) -> Vec<u8> {
+    part.repeat(size / part.len()).into_bytes()
+}
+
+/// The large texts, of about so many bytes. Front inserts take the Rust time that grows with the square of the text.
+pub fn large(size: usize) -> Vec<Text> {
+    let text = |name, part| Text { name, bytes: repeated(part, size) };
+    vec![
+        text("template text", "Sample {name}: {value:>10.3} {unit} (range {low:.2} to {high:.2})\n"),
+        text("literal text", "The sample was stored at room temperature and read twice, as the method asks.\n"),
+        text("ASCII names", "{temperature}{pressure_left}{volume}"),
+        text("names with ø and 日", "{größe}{målning}{温度計}{øre}"),
+        text("type words", "{:hexadecimal}{:scientific}{:money}"),
+        text("errors at the back", "{:_}{_}"),
+        text("errors at the front", "{,"),
+    ]
+}
+
+/// Short templates, of 40 to 200 bytes.
+pub fn short() -> Vec<Text> {
+    let text = |name, line: &str| Text { name, bytes: line.as_bytes().to_vec() };
+    vec![
+        text("short, 45 bytes", "{name}: {value:.3} {unit}, limit {limit:.3} ok"),
+        text("short, 65 bytes", "Sample {name}: {value:>10.3} {unit} (range {low:.2} to {high:.2})"),
+        text(
+            "short, 148 bytes",
+            "Temperature {t:5.1} C, pressure {p:7.2} hPa, humidity {h:3.0} %, wind {w:4.1} m/s from {dir}, taken at {time} by {who} on the roof of the institute.",
+        ),
+    ]
+}
+
+/// A text that is refused for its last byte.
+pub fn broken(size: usize) -> Text {
+    let mut bytes = repeated("The sample was stored at room temperature and read twice.\n", size);
+    bytes.push(0xFF);
+    Text { name: "refused for its UTF-8", bytes }
+}
