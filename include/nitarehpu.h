@@ -4,8 +4,7 @@
  * lends. No allocation, no global state: calls may run side by side on lists of their own.
  *
  * What the caller sees to, and nothing checks:
- *   - each pointer leads to as many readable (the lists: also writable) elements as the length after it says; with length 0 it may be any non-null
- *     pointer, or null;
+ *   - each pointer leads to as many readable (the lists: also writable) elements as the length after it says; with length 0 it may be null;
  *   - no list overlaps another list, the text or the snippet; the text and the snippet may be the same bytes;
  *   - pieces and errors are aligned for uint32_t; places, lines and answer for size_t.
  * Every other argument gets a defined answer. The library is for x86-64 Linux.
