@@ -58,6 +58,6 @@ isDefault s =
     both (noMarks (s .fill) (s .align) (s .sign) (s .alternate) (s .zero) (s .hex))
     (both (noCounts (s .width) (s .widthspan) (s .precision) (s .precisionspan)) (both (isEmpty (s .kind)) (noSpan (s .kindspan))))
 
--- "Kinds 13 and 14 need a named place and a spec equal to the default"
+-- kinds 13 and 14 need a named place and a spec equal to the default, as in the Rust
 unfoldable pub isIdentifier : Place → Spec → Bool
 isIdentifier p s = both (isNamed p) (isDefault s)

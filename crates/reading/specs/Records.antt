@@ -1,4 +1,4 @@
--- The error record of a fault: "Each record has the kind, its span, a second span, what is quoted and the suggestion's span; otherwise none."
+-- The error record of a fault: "Each record has the kind, its span, a second span (..), what is quoted (..)" and the suggestion's span; where one is not named there is none.
 use Prim.Native.Nat.{ℕ}
 use mathlib.Core.Bool.{Bool, true, false}
 use mathlib.Core.List.{List}
@@ -33,7 +33,7 @@ kindOf (Fault.Field a b) = 13
 kindOf (Fault.TupleIndex a b) = 14
 kindOf (Fault.Comma p s) = 15
 
--- "Added at the back: 1, 2, 3, 6, 7. Put at the front: 4, 5, 8 to 15"
+-- added at the back: kinds 1, 2, 3, 6, 7; put at the front: 4, 5, 8 to 15
 abbrev pub isFront : Fault → Bool
 isFront Fault.Clean = false
 isFront (Fault.Unmatched p) = false
