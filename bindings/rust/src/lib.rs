@@ -10,6 +10,7 @@
 
 pub mod raw;
 mod records;
+mod room;
 
 pub use records::{
     Alignment, Argument, Count, DebugHex, FormatSpec, ParseError, Piece, Position, Sign,
@@ -71,25 +72,47 @@ pub fn parse(
         snippet: snippet.map(str::as_bytes),
         newline: append_newline,
     };
-    let needed = raw::count(text.as_bytes(), request);
-    match needed.number {
-        0 => {}
-        2 => return Err(Refused::Style),
-        3 => return Err(Refused::Long),
-        5 => return Err(Refused::Newline),
-        other => unreachable!("a string with a mode is not refused with {other}"),
+    // Only source literals have places and lines, and those have a style.
+    match style {
+        None => room::with(text.len(), |pieces, errors| {
+            let mut lists = raw::Lists { pieces, errors, places: &mut [], lines: &mut [] };
+            let answer = raw::read(text.as_bytes(), request, &mut lists);
+            accepted(answer)?;
+            Ok(parsed(text, answer, &lists))
+        }),
+        Some(_) => {
+            let needed = raw::count(text.as_bytes(), request);
+            accepted(needed)?;
+            let mut pieces = vec![0; raw::PIECE * needed.pieces];
+            let mut errors = vec![0; raw::ERROR * needed.errors];
+            let mut places = vec![0; 2 * needed.places];
+            let mut lines = vec![0; 2 * needed.lines];
+            let mut lists = raw::Lists { pieces: &mut pieces, errors: &mut errors, places: &mut places, lines: &mut lines };
+            let answer = raw::read(text.as_bytes(), request, &mut lists);
+            assert_eq!(answer, needed, "a reading needs what was counted");
+            Ok(parsed(text, answer, &lists))
+        }
     }
-    let mut pieces = vec![0; raw::PIECE * needed.pieces];
-    let mut errors = vec![0; raw::ERROR * needed.errors];
-    let mut places = vec![0; 2 * needed.places];
-    let mut lines = vec![0; 2 * needed.lines];
-    let mut lists = raw::Lists { pieces: &mut pieces, errors: &mut errors, places: &mut places, lines: &mut lines };
-    let answer = raw::read(text.as_bytes(), request, &mut lists);
-    assert_eq!(answer, needed, "a reading needs what was counted");
-    Ok(Parsed {
-        pieces: pieces.chunks_exact(raw::PIECE).map(|words| records::piece(text, words)).collect(),
-        errors: errors.chunks_exact(raw::ERROR).map(records::error).collect(),
-        arg_places: places.chunks_exact(2).map(|ends| ends[0]..ends[1]).collect(),
-        line_spans: lines.chunks_exact(2).map(|ends| ends[0]..ends[1]).collect(),
-    })
+}
+
+/// Whether a call is done. Its text is UTF-8, its mode is one, and its lists have room, so the other refusals do not come.
+fn accepted(answer: raw::Answer) -> Result<(), Refused> {
+    match answer.number {
+        0 => Ok(()),
+        2 => Err(Refused::Style),
+        3 => Err(Refused::Long),
+        5 => Err(Refused::Newline),
+        other => unreachable!("a string with a mode and lists with room are not refused with {other}"),
+    }
+}
+
+/// The records of a call that is done, from the first numbers of its lists.
+fn parsed(text: &str, answer: raw::Answer, lists: &raw::Lists<'_>) -> Parsed {
+    let range = |ends: &[usize]| ends[0]..ends[1];
+    Parsed {
+        pieces: lists.pieces[..raw::PIECE * answer.pieces].chunks_exact(raw::PIECE).map(|words| records::piece(text, words)).collect(),
+        errors: lists.errors[..raw::ERROR * answer.errors].chunks_exact(raw::ERROR).map(records::error).collect(),
+        arg_places: lists.places[..2 * answer.places].chunks_exact(2).map(range).collect(),
+        line_spans: lists.lines[..2 * answer.lines].chunks_exact(2).map(range).collect(),
+    }
 }

@@ -3,6 +3,8 @@
 /// The numbers of a piece and of an error record.
 pub const PIECE: usize = 40;
 pub const ERROR: usize = 16;
+/// Bytes of the longest text that is read.
+pub const LONGEST: usize = 65_535;
 
 unsafe extern "C" {
     fn nitarehpu_read(

@@ -92,3 +92,12 @@ fn the_longest_text_is_read() {
     let text = "{}".repeat(32_767);
     assert_eq!(read(&text).pieces.len(), 32_767);
 }
+
+#[test]
+fn nothing_of_a_longer_text_stays_for_a_shorter_one() {
+    let long = read(&"{,{:_}".repeat(2000));
+    assert!(2000 < long.errors.len());
+    for text in ["{a}", "", "{,{:_}", "{a}"] {
+        assert_eq!(read(text), std::thread::scope(|s| s.spawn(|| read(text)).join().unwrap()));
+    }
+}

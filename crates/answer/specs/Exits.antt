@@ -1,25 +1,15 @@
 -- The lists at exit. "A refusal changes no list. Done fills the first records of each list; the rest stay."
-use Prim.Native.Nat.{ℕ, _*_}
+use Prim.Native.Nat.{ℕ}
 use mathlib.Core.Path.{_≡_}
-use mathlib.Core.List.{List, [], _∷_, _++_}
+use mathlib.Core.List.{List}
 use lib.Dec.{eqb}
-use lib.ListN.{length, drop}
 use Rattle.unicode.specs.Choice.{pick}
-use Rattle.frame.specs.declared.Span.{Span}
 use Rattle.reading.specs.Lists.{pieces, errors, places, lines}
+use Rattle.reading.specs.Written.{over, pairs}
 use Rattle.reading.specs.declared.Piece.{Piece}
 use Rattle.reading.specs.declared.ErrorRecord.{ErrorRecord}
 use Rattle.answer.specs.Answers.{frameFor, modeFor}
 use Rattle.answer.specs.declared.Request.{Request}
-
--- records over the first of a list
-unfoldable pub over : {A : Type 0} → List A → List A → List A
-over new old = new ++ drop (length new) old
-
--- a span is two numbers of its list: start, end
-unfoldable pub pairs : List Span → List ℕ
-pairs [] = []
-pairs (x ∷ xs) = x .start .0 ∷ x .end .0 ∷ pairs xs
 
 -- what a list holds at exit: the records where the call is done, else what it held
 unfoldable pub atExit : {A : Type 0} → ℕ → List A → List A → List A

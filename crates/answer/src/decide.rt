@@ -138,7 +138,7 @@ fn counted(text: &[u8], frame: Frame, mode: Mode, rooms: Rooms) -> Answer
     requires { ⌜ Small (now text) frame ⌝ }
     ensures { λ r. ⌜ r ≡ countedBy (now (text .entry)) frame mode rooms ⌝ }
 {
-    let counts = reading::tally::tally(text, frame, mode);
+    let counts = tally::tally(text, frame, mode);
     Answer {
         number: room_for(counts, rooms),
         place: 0,

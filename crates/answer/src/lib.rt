@@ -1,14 +1,9 @@
-// The answer to a call, decided before any list is touched, and what then goes into each list, a record at a time.
+// The answer to a call, decided before any list is touched.
 use frame::Frame;
 use placeholder::Mode;
 use reading::Counts;
-use reading::ErrorRecord;
-use reading::Piece;
-use reading::State;
 
 pub mod decide; // decide.rt: refusals 1 to 9
-pub mod turns; // turns.rt: the next piece and the next error record
-pub mod spans; // spans.rt: argument places and line spans, written as pairs of numbers
 
 // No style, or a raw string with so many hashes.
 pub enum Hashes {
@@ -44,26 +39,4 @@ pub struct Decision {
     pub answer: Answer,
     pub frame: Frame,
     pub mode: Mode,
-}
-
-// Where a run over the steps stands, and how many steps it may still take.
-pub struct Cursor {
-    pub state: State,
-    pub left: usize,
-}
-
-// The next piece, if there is one, and where the run stands after it.
-pub struct PieceTurn {
-    pub more: bool,
-    pub piece: Piece,
-    pub cursor: Cursor,
-}
-
-// The next fault's record, if there is one, and whether it is put at the front; the step that it is of, and the place after it there.
-pub struct FaultTurn {
-    pub more: bool,
-    pub front: bool,
-    pub record: ErrorRecord,
-    pub cursor: Cursor,
-    pub slot: usize,
 }

@@ -32,10 +32,10 @@ use Rattle.placeholder.specs.Format.{formatRead}
 use Rattle.placeholder.specs.Specs.{typeOnly, diagnosticType, afterColon, specRead}
 use Rattle.placeholder.specs.Arguments.{resolved, argumentRead}
 use Rattle.placeholder.specs.BoundLaws.{spec-next, argument-next}
-use Rattle.placeholder.specs.OnwardLaws.{argument-in, recover-in}
-use Rattle.placeholder.specs.Recovery.{because, expectedSeen, expectedAt, cleanFaults, passedTo, afterQuestion, signHint, fieldHint, fieldRead, recoverRead}
-use Rattle.placeholder.specs.Defaults.{isIdentifier}
-use Rattle.placeholder.specs.Wholes.{missingRead, placeholderRead}
+use Rattle.closing.specs.OnwardLaws.{argument-in, recover-in}
+use Rattle.closing.specs.Recovery.{because, expectedSeen, expectedAt, cleanFaults, passedTo, afterQuestion, signHint, fieldHint, fieldRead, recoverRead}
+use Rattle.closing.specs.Defaults.{isIdentifier}
+use Rattle.closing.specs.Wholes.{missingRead, placeholderRead}
 use Rattle.placeholder.specs.declared.ArgumentFaults.{ArgumentFaults}
 use Rattle.placeholder.specs.declared.Fill.{Fill}
 use Rattle.placeholder.specs.declared.Hex.{Hex}
@@ -51,9 +51,9 @@ use Rattle.placeholder.specs.declared.format.PrecisionRead.{PrecisionRead}
 use Rattle.placeholder.specs.declared.format.TypeRead.{TypeRead}
 use Rattle.placeholder.specs.declared.format.SpecRead.{SpecRead}
 use Rattle.placeholder.specs.declared.between.ArgumentRead.{ArgumentRead}
-use Rattle.placeholder.specs.declared.recover.Recovery.{Recovery}
-use Rattle.placeholder.specs.declared.whole.Closing.{Closing}
-use Rattle.placeholder.specs.declared.whole.PlaceholderRead.{PlaceholderRead}
+use Rattle.closing.specs.declared.recover.Recovery.{Recovery}
+use Rattle.closing.specs.declared.whole.Closing.{Closing}
+use Rattle.closing.specs.declared.whole.PlaceholderRead.{PlaceholderRead}
 use Rattle.back.specs.Back.{Below, RangeFits, SpanFits, MaybeSpanFits, FillFits, PlaceFits, CountFits, SpecFits, ArgumentFits}
 
 -- a place, and bytes, within a text

@@ -14,7 +14,7 @@ use Rattle.scan.specs.ScanLaws.{consumed-in, past-in, text-in}
 use Rattle.scan.specs.declared.Fault.{Fault}
 use Rattle.placeholder.specs.declared.ArgumentFaults.{ArgumentFaults}
 use Rattle.placeholder.specs.declared.Mode.{Mode}
-use Rattle.placeholder.specs.declared.whole.Closing.{Closing}
+use Rattle.closing.specs.declared.whole.Closing.{Closing}
 use Rattle.reading.specs.Steps.{afterOpen, afterClose, stepAt, onward, reading}
 use Rattle.reading.specs.StepLaws.{step-later, Run, reading-run}
 use Rattle.reading.specs.Faults.{argumentSlots, missingSlots, closingSlots, stepSlots, wrong, faultsOf}

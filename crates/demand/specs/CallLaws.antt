@@ -21,7 +21,8 @@ use Rattle.reading.specs.declared.Piece.{Piece}
 use Rattle.reading.specs.declared.ErrorRecord.{ErrorRecord}
 use Rattle.reading.specs.declared.Counts.{Counts}
 use Rattle.answer.specs.Answers.{isBroken, frameFor, modeFor, countedAnswer, answerOf}
-use Rattle.answer.specs.Exits.{over, pairs, atExit}
+use Rattle.reading.specs.Written.{over, pairs}
+use Rattle.answer.specs.Exits.{atExit}
 use Rattle.answer.specs.declared.Request.{Request}
 use Rattle.answer.specs.declared.Rooms.{Rooms}
 use Rattle.answer.specs.declared.Answer.{Answer}

@@ -11,7 +11,7 @@ use Rattle.reading.specs.Lists.{pieces, errors, places, lines, stoppingPlace, c
 use Rattle.reading.specs.declared.Piece.{Piece}
 use Rattle.reading.specs.declared.ErrorRecord.{ErrorRecord}
 use Rattle.answer.specs.Answers.{frameFor, modeOf, modeFor}
-use Rattle.answer.specs.Exits.{pairs}
+use Rattle.reading.specs.Written.{pairs}
 use Rattle.answer.specs.declared.Request.{Request}
 use Rattle.answer.specs.declared.Answer.{Answer}
 use Rattle.reader.specs.Calls.{Read}

@@ -9,7 +9,7 @@ use Rattle.unicode.specs.Choice.{pick}
 use Rattle.reading.specs.Lists.{places, lines}
 use Rattle.answer.specs.Answers.{frameFor, modeFor, Opened, Decided}
 use Rattle.answer.specs.AnswerLaws.{opened-refused, opened-counted}
-use Rattle.answer.specs.Exits.{over, pairs}
+use Rattle.reading.specs.Written.{over, pairs}
 use Rattle.answer.specs.declared.Request.{Request}
 use Rattle.answer.specs.declared.Answer.{Answer}
 use Rattle.answer.specs.declared.Decision.{Decision}

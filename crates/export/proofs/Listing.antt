@@ -17,7 +17,8 @@ use Rattle.reading.specs.RoomLaws.{few-pieces, few-errors}
 use Rattle.reading.specs.declared.Counts.{Counts}
 use Rattle.answer.specs.Answers.{answered, roomFor}
 use Rattle.answer.specs.AnswerLaws.{room-enough}
-use Rattle.answer.specs.Exits.{over, pairs, atExit}
+use Rattle.reading.specs.Written.{over, pairs}
+use Rattle.answer.specs.Exits.{atExit}
 use Rattle.answer.specs.declared.Rooms.{Rooms}
 use Rattle.answer.specs.declared.Answer.{Answer}
 use Rattle.fills.specs.Filling.{piecesIn, errorsIn, Fills}

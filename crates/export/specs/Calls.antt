@@ -8,7 +8,8 @@ use lib.ListN.{length}
 use Rattle.unicode.specs.Choice.{pick}
 use Rattle.reading.specs.Lists.{places, lines}
 use Rattle.answer.specs.Answers.{answerOf, frameFor, modeFor}
-use Rattle.answer.specs.Exits.{over, pairs, atExit}
+use Rattle.reading.specs.Written.{over, pairs}
+use Rattle.answer.specs.Exits.{atExit}
 use Rattle.answer.specs.declared.Hashes.{Hashes}
 use Rattle.answer.specs.declared.Request.{Request}
 use Rattle.answer.specs.declared.Rooms.{Rooms}

@@ -9,7 +9,8 @@ use Rattle.frame.specs.declared.Frame.{Frame}
 use Rattle.placeholder.specs.declared.Mode.{Mode}
 use Rattle.reading.specs.Lists.{places, lines, countsOf}
 use Rattle.answer.specs.Answers.{answered, countedBy, answerOf, frameFor, modeFor}
-use Rattle.answer.specs.Exits.{over, pairs, atExit}
+use Rattle.reading.specs.Written.{over, pairs}
+use Rattle.answer.specs.Exits.{atExit}
 use Rattle.answer.specs.declared.Request.{Request}
 use Rattle.answer.specs.declared.Rooms.{Rooms}
 use Rattle.answer.specs.declared.Answer.{Answer}

@@ -6,17 +6,17 @@ use answer::Rooms;
 use answer::decide::decide;
 use answer::decide::opened;
 use answer::decide::room_for;
-use answer::spans::fill_lines;
-use answer::spans::fill_places;
 use frame::Frame;
 use placeholder::Mode;
 use reading::Counts;
+use spans::fill_lines;
+use spans::fill_places;
 ghost use mathlib.Core.Path.{_≡_};
 ghost use mathlib.Core.Bool.{true};
 ghost use Prim.Native.Nat.{_≤_};
 ghost use lib.ListN.{length};
 ghost use Rattle.frame.specs.Spans.{Small};
-ghost use Rattle.answer.specs.Exits.{over};
+ghost use Rattle.reading.specs.Written.{over};
 ghost use Rattle.export.specs.Calls.{Exported, Counted, styleOf, requestOf, roomsIn, answerWords};
 ghost use Rattle.export.specs.Parts.{Roomy, Ample, Filled, ReadBy, Read};
 
@@ -101,7 +101,7 @@ fn counted(
     requires { ⌜ Small (now text) frame × (rooms ≡ roomsIn (now pieces) (now errors) (now places) (now lines)) ⌝ }
     ensures { λ r. ⌜ ReadBy (now (text .entry)) frame mode (now (pieces .entry)) (now (pieces .exit)) (now (errors .entry)) (now (errors .exit)) (now (places .entry)) (now (places .exit)) (now (lines .entry)) (now (lines .exit)) r ⌝ }
 {
-    let counts = reading::tally::tally(text, frame, mode);
+    let counts = tally::tally(text, frame, mode);
     let number = room_for(counts, rooms);
     if number == 0 {
         fills::run::fill(text, frame, mode, pieces, errors);

@@ -11,7 +11,7 @@ use lib.ListN.{length, length-append}
 use Rattle.unicode.specs.Choice.{pick}
 use Rattle.frame.specs.declared.Frame.{Frame}
 use Rattle.scan.specs.declared.Fault.{Fault}
-use Rattle.placeholder.specs.Recovery.{isClean}
+use Rattle.closing.specs.Recovery.{isClean}
 use Rattle.reading.specs.Faults.{wrong}
 use Rattle.reading.specs.Lists.{gather, frontOnly, backOnly, reversed, listed, records}
 use Rattle.reading.specs.ListLaws.{gather-append}

@@ -8,7 +8,7 @@ use native.Mathlib.Omega.{arith}
 use lib.ListN.{length, take, drop, take-append-drop, length-append}
 use lib.Seq.{length-take-le, take-append-le, take-take, drop-at, drop-append-add, drop-drop}
 use Rattle.reading.specs.Lists.{gather}
-use Rattle.answer.specs.Exits.{over}
+use Rattle.reading.specs.Written.{over}
 use Rattle.words.specs.Laid.{laid}
 
 module _ {A : Type 0} (l : List A) where

@@ -19,7 +19,7 @@ use Rattle.reading.specs.StepLaws.{steps-more, steps-over, steps-none, step-nex
 use Rattle.reading.specs.declared.Piece.{Piece}
 use Rattle.reading.specs.declared.State.{State}
 use Rattle.reading.specs.declared.Step.{Step}
-use Rattle.answer.specs.Exits.{over}
+use Rattle.reading.specs.Written.{over}
 use Rattle.words.specs.Laid.{laid}
 use Rattle.words.specs.LaidLaws.{laid-length, laid-on, pieceWords-length}
 use Rattle.words.specs.Layout.{pieceWords, errorWords}

@@ -15,9 +15,9 @@ use Rattle.frame.specs.declared.TextRange.{TextRange}
 use Rattle.scan.specs.Characters.{isAt, consumed, textEnd}
 use Rattle.scan.specs.ScanLaws.{is-at-byte, is-at-end, consumed-is, consumed-some}
 use Rattle.scan.specs.declared.Fault.{Fault}
-use Rattle.placeholder.specs.Wholes.{placeholderRead}
+use Rattle.closing.specs.Wholes.{placeholderRead}
 use Rattle.placeholder.specs.declared.Mode.{Mode}
-use Rattle.placeholder.specs.declared.whole.PlaceholderRead.{PlaceholderRead}
+use Rattle.closing.specs.declared.whole.PlaceholderRead.{PlaceholderRead}
 use Rattle.reading.specs.Faults.{argumentSlots, closingSlots, stepSlots}
 use Rattle.reading.specs.Lists.{gather, piecesOf}
 use Rattle.reading.specs.ListLaws.{gather-one}

@@ -6,7 +6,7 @@ use lib.ListN.{length}
 use Rattle.frame.specs.declared.Frame.{Frame}
 use Rattle.placeholder.specs.declared.Mode.{Mode}
 use Rattle.reading.specs.Lists.{gather, pieces, errors}
-use Rattle.answer.specs.Exits.{over}
+use Rattle.reading.specs.Written.{over}
 use Rattle.words.specs.Layout.{pieceWords, errorWords}
 use Rattle.fills.specs.declared.run.Filled.{Filled}
 

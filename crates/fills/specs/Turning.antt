@@ -11,7 +11,7 @@ use Rattle.frame.specs.Spans.{spanBetween}
 use Rattle.frame.specs.declared.Frame.{Frame}
 use Rattle.scan.specs.declared.Fault.{Fault}
 use Rattle.placeholder.specs.Arguments.{resolved}
-use Rattle.placeholder.specs.Recovery.{isClean}
+use Rattle.closing.specs.Recovery.{isClean}
 use Rattle.placeholder.specs.declared.Mode.{Mode}
 use Rattle.placeholder.specs.declared.Place.{Place}
 use Rattle.reading.specs.Faults.{stepSlots, wrong}
@@ -22,7 +22,7 @@ use Rattle.reading.specs.declared.ErrorRecord.{ErrorRecord}
 use Rattle.reading.specs.declared.Onward.{Onward}
 use Rattle.reading.specs.declared.State.{State}
 use Rattle.reading.specs.declared.Step.{Step}
-use Rattle.answer.specs.Exits.{over}
+use Rattle.reading.specs.Written.{over}
 use Rattle.quick.specs.Tellings.{foundOf}
 use Rattle.quick.specs.declared.Part.{Part}
 use Rattle.quick.specs.declared.Told.{Told}

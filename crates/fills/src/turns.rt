@@ -1,10 +1,10 @@
 // One step of a reading: its piece and its error records, written.
+use closing::whole::Closing;
 use frame::Frame;
 use frame::Span;
 use frame::TextPlace;
 use placeholder::ArgumentFaults;
 use placeholder::Mode;
-use placeholder::whole::Closing;
 use quick::Kind;
 use quick::Part;
 use quick::SpecTold;
@@ -284,11 +284,11 @@ fn put_fault(text: &[u8], frame: Frame, fault: Fault, errors: &mut [u32], marks:
     requires { ⌜ Small (now text) frame × Room (notedBy marks (now errors)) (fault ∷ []) ⌝ }
     ensures { λ r. ⌜ Notes (now (text .entry)) frame marks (now (errors .entry)) (fault ∷ []) r (now (errors .exit)) ⌝ }
 {
-    if placeholder::recover::is_clean(fault) {
+    if closing::recover::is_clean(fault) {
         return marks;
     }
-    let record = reading::faults::record_of(text, frame, fault);
-    if !reading::faults::is_front(fault) {
+    let record = faults::record_of(text, frame, fault);
+    if !faults::is_front(fault) {
         put_error(errors, marks.high, record);
         return Marks {
             pieces: marks.pieces,

@@ -5,7 +5,3 @@ pub mod Format
 pub mod Specs
 pub mod Arguments
 pub mod BoundLaws
-pub mod Defaults
-pub mod Recovery
-pub mod Wholes
-pub mod OnwardLaws

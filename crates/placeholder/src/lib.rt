@@ -1,4 +1,4 @@
-// What stands between two braces: a place, a spec in each mode's grammar, what is found wrong there, and how reading goes on after it.
+// What stands between two braces: a place, a spec in each mode's grammar, and what is found wrong there.
 use frame::Span;
 use frame::TextPlace;
 use frame::TextRange;
@@ -9,8 +9,6 @@ pub mod position; // position.rt: the place: a number, a word, or nothing
 pub mod format; // format.rt: the Format spec, a part at a time
 pub mod modes; // modes.rt: the spec of each mode
 pub mod between; // between.rt: all between the braces
-pub mod recover; // recover.rt: what is said, and passed, where no closing brace stands
-pub mod whole; // whole.rt: a placeholder from its opening brace
 
 // Which grammar a text is read by.
 pub enum Mode {

@@ -18,7 +18,7 @@ use Rattle.scan.specs.declared.Fault.{Fault}
 use Rattle.placeholder.specs.Arguments.{resolved, joined, argumentRead}
 use Rattle.placeholder.specs.Places.{placed}
 use Rattle.placeholder.specs.Specs.{noSpec, specRead}
-use Rattle.placeholder.specs.Wholes.{placeholderRead}
+use Rattle.closing.specs.Wholes.{placeholderRead}
 use Rattle.placeholder.specs.declared.Mode.{Mode}
 use Rattle.placeholder.specs.declared.format.SpecRead.{SpecRead}
 use Rattle.placeholder.specs.declared.position.Found.{Found}

@@ -15,9 +15,9 @@ use Rattle.frame.specs.declared.Frame.{Frame}
 use Rattle.scan.specs.Ends.{spanAcross}
 use Rattle.scan.specs.declared.Count.{Count}
 use Rattle.placeholder.specs.Arguments.{resolved}
-use Rattle.placeholder.specs.Recovery.{cleanFaults, textTaken}
+use Rattle.closing.specs.Recovery.{cleanFaults, textTaken}
 use Rattle.placeholder.specs.Specs.{noSpec}
-use Rattle.placeholder.specs.Wholes.{placeholderRead}
+use Rattle.closing.specs.Wholes.{placeholderRead}
 use Rattle.placeholder.specs.declared.Argument.{Argument}
 use Rattle.placeholder.specs.declared.Fill.{Fill}
 use Rattle.placeholder.specs.declared.Hex.{Hex}
@@ -25,8 +25,8 @@ use Rattle.placeholder.specs.declared.MaybeSpan.{MaybeSpan}
 use Rattle.placeholder.specs.declared.Mode.{Mode}
 use Rattle.placeholder.specs.declared.Spec.{Spec}
 use Rattle.placeholder.specs.declared.position.Found.{Found}
-use Rattle.placeholder.specs.declared.whole.Closing.{Closing}
-use Rattle.placeholder.specs.declared.whole.PlaceholderRead.{PlaceholderRead}
+use Rattle.closing.specs.declared.whole.Closing.{Closing}
+use Rattle.closing.specs.declared.whole.PlaceholderRead.{PlaceholderRead}
 use Rattle.quick.specs.declared.Part.{Part}
 use Rattle.quick.specs.declared.Kind.{Kind}
 use Rattle.quick.specs.declared.SpecTold.{SpecTold}

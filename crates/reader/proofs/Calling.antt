@@ -18,8 +18,9 @@ use Rattle.reading.specs.declared.Piece.{Piece}
 use Rattle.reading.specs.declared.ErrorRecord.{ErrorRecord}
 use Rattle.answer.specs.Answers.{frameFor, modeFor, countedAnswer, answerOf, Decided}
 use Rattle.answer.specs.AnswerLaws.{Done, decided-done}
-use Rattle.answer.specs.Exits.{over, pairs, atExit}
-use Rattle.answer.specs.Turns.{noPiece}
+use Rattle.reading.specs.Written.{over, pairs}
+use Rattle.answer.specs.Exits.{atExit}
+use Rattle.turns.specs.Turns.{noPiece}
 use Rattle.answer.specs.declared.Request.{Request}
 use Rattle.answer.specs.declared.Rooms.{Rooms}
 use Rattle.answer.specs.declared.Answer.{Answer}

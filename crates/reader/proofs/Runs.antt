@@ -13,11 +13,11 @@ use Rattle.placeholder.specs.declared.Mode.{Mode}
 use Rattle.reading.specs.Lists.{pieces, errors}
 use Rattle.reading.specs.declared.Piece.{Piece}
 use Rattle.reading.specs.declared.ErrorRecord.{ErrorRecord}
-use Rattle.answer.specs.declared.PieceTurn.{PieceTurn}
-use Rattle.answer.specs.declared.FaultTurn.{FaultTurn}
-use Rattle.answer.specs.Exits.{over}
-use Rattle.answer.specs.Turns.{Fresh, firstCursor, piecesAt, piecesTurn, PieceNext, note, Note, notes, faultsAt, notesTurn, FaultNext, posted}
-use Rattle.answer.specs.TurnLaws.{first-pieces, first-faults, posted-length, posted-errors}
+use Rattle.turns.specs.declared.PieceTurn.{PieceTurn}
+use Rattle.turns.specs.declared.FaultTurn.{FaultTurn}
+use Rattle.reading.specs.Written.{over}
+use Rattle.turns.specs.Turns.{Fresh, firstCursor, piecesAt, piecesTurn, PieceNext, note, Note, notes, faultsAt, notesTurn, FaultNext, posted}
+use Rattle.turns.specs.TurnLaws.{first-pieces, first-faults, posted-length, posted-errors}
 use Rattle.reader.specs.Lent.{FilledBy}
 use Rattle.reader.proofs.Filling.{with-one}
 

@@ -10,7 +10,7 @@ use Rattle.reading.specs.declared.Piece.{Piece}
 use Rattle.reading.specs.declared.ErrorRecord.{ErrorRecord}
 use Rattle.answer.specs.Answers.{answerOf}
 use Rattle.answer.specs.Exits.{Filled}
-use Rattle.answer.specs.Turns.{noPiece}
+use Rattle.turns.specs.Turns.{noPiece}
 use Rattle.answer.specs.declared.Request.{Request}
 use Rattle.answer.specs.declared.Rooms.{Rooms}
 use Rattle.answer.specs.declared.Answer.{Answer}

@@ -5,7 +5,7 @@ use mathlib.Core.Bool.{Bool}
 use mathlib.Core.List.{List, _∷_, _++_}
 use lib.ListN.{length, take, drop, set}
 use Rattle.unicode.specs.Choice.{pick}
-use Rattle.answer.specs.Exits.{over}
+use Rattle.reading.specs.Written.{over}
 
 -- "a front record moves the others back by one": the first n move, the rest stay
 unfoldable pub inFront : {A : Type 0} → List A → ℕ → A → List A

@@ -5,8 +5,6 @@ use answer::Answer;
 use answer::Request;
 use answer::Rooms;
 use answer::decide::decide;
-use answer::spans::fill_lines;
-use answer::spans::fill_places;
 use frame::SnippetPlace;
 use frame::Span;
 use frame::TextPlace;
@@ -15,9 +13,11 @@ use placeholder::MaybeSpan;
 use reading::ErrorRecord;
 use reading::MaybeRange;
 use reading::Piece;
+use spans::fill_lines;
+use spans::fill_places;
 ghost use mathlib.Core.Path.{_≡_};
 ghost use Prim.Native.Nat.{_/_};
-ghost use Rattle.answer.specs.Turns.{noPiece};
+ghost use Rattle.turns.specs.Turns.{noPiece};
 ghost use Rattle.reader.specs.Calls.{Read, noError, Read256};
 
 // Reads a text into four lists; a span takes two numbers of its list. A refusal changes no list.

@@ -1,11 +1,11 @@
 // Records in a lent list: one added at the back, one put in front with a shift, a whole list filled.
-use answer::turns::first_cursor;
-use answer::turns::next_fault;
-use answer::turns::next_piece;
 use frame::Frame;
 use placeholder::Mode;
 use reading::ErrorRecord;
 use reading::Piece;
+use turns::first_cursor;
+use turns::next_fault;
+use turns::next_piece;
 ghost use mathlib.Core.Path.{_≡_};
 ghost use Prim.Native.Nat.{_<_, _≤_, _+_};
 ghost use lib.ListN.{length, set};

@@ -30,9 +30,9 @@ use Rattle.placeholder.specs.Types.{hexType, isHexOrHash, debugType, wordType, 
 use Rattle.placeholder.specs.Format.{formatRead}
 use Rattle.placeholder.specs.Specs.{diagnosticType, specRead}
 use Rattle.placeholder.specs.Arguments.{argumentRead}
-use Rattle.placeholder.specs.Defaults.{noMarks, noCounts, isDefault, isIdentifier}
-use Rattle.placeholder.specs.Recovery.{expectedAt, afterQuestion, signHint, fieldRead, recoverRead}
-use Rattle.placeholder.specs.Wholes.{missingRead, placeholderRead}
+use Rattle.closing.specs.Defaults.{noMarks, noCounts, isDefault, isIdentifier}
+use Rattle.closing.specs.Recovery.{expectedAt, afterQuestion, signHint, fieldRead, recoverRead}
+use Rattle.closing.specs.Wholes.{missingRead, placeholderRead}
 use Rattle.placeholder.specs.declared.Argument.{Argument}
 use Rattle.placeholder.specs.declared.Fill.{Fill}
 use Rattle.placeholder.specs.declared.MaybeSpan.{MaybeSpan}

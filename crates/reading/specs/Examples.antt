@@ -23,9 +23,9 @@ use Rattle.placeholder.specs.Types.{hexType, isHexOrHash, debugType, wordType, 
 use Rattle.placeholder.specs.Format.{formatRead}
 use Rattle.placeholder.specs.Specs.{specRead}
 use Rattle.placeholder.specs.Arguments.{argumentRead}
-use Rattle.placeholder.specs.Defaults.{noMarks, noCounts, isDefault, isIdentifier}
-use Rattle.placeholder.specs.Recovery.{expectedAt, afterQuestion, signHint, fieldRead, recoverRead}
-use Rattle.placeholder.specs.Wholes.{missingRead, placeholderRead}
+use Rattle.closing.specs.Defaults.{noMarks, noCounts, isDefault, isIdentifier}
+use Rattle.closing.specs.Recovery.{expectedAt, afterQuestion, signHint, fieldRead, recoverRead}
+use Rattle.closing.specs.Wholes.{missingRead, placeholderRead}
 use Rattle.reading.specs.Steps.{afterOpen, afterClose, stepAt, stepsFrom, reading}
 use Rattle.reading.specs.Faults.{argumentSlots, missingSlots, closingSlots, stepSlots, wrong, faultsOf}
 use Rattle.reading.specs.Records.{recordOf}

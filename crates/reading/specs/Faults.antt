@@ -2,10 +2,10 @@
 use mathlib.Core.List.{List, [], _∷_, _++_}
 use Rattle.unicode.specs.Choice.{pick}
 use Rattle.scan.specs.declared.Fault.{Fault}
-use Rattle.placeholder.specs.Recovery.{isClean}
+use Rattle.closing.specs.Recovery.{isClean}
 use Rattle.placeholder.specs.declared.ArgumentFaults.{ArgumentFaults}
-use Rattle.placeholder.specs.declared.recover.Recovery.{Recovery}
-use Rattle.placeholder.specs.declared.whole.Closing.{Closing}
+use Rattle.closing.specs.declared.recover.Recovery.{Recovery}
+use Rattle.closing.specs.declared.whole.Closing.{Closing}
 use Rattle.reading.specs.declared.Step.{Step}
 
 -- an argument's: its place's, its raw name's, its width's, its precision's, its type's

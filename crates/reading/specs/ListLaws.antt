@@ -75,11 +75,6 @@ pub literal-none : (t : List ℕ) → literalChars t [] ≡ []
 unfolding literalChars gather
 literal-none t = refl
 
--- of joined steps
-pub literal-append : (t : List ℕ) (a b : List Step) → literalChars t (a ++ b) ≡ literalChars t a ++ literalChars t b
-unfolding literalChars
-literal-append t a b = rw (gather-append, gather-append)
-
 -- a line for each newline, and the last where the text has ended
 pub lines-length : (f : Frame) (cs : List Ch) (over : Bool) → length (linesIn f cs over) ≡ newlines cs + pick over 1 0
 unfolding linesIn pick

@@ -13,8 +13,8 @@ use Rattle.frame.specs.declared.Frame.{Frame}
 use Rattle.scan.specs.Ends.{spanAcross}
 use Rattle.scan.specs.declared.Fault.{Fault}
 use Rattle.placeholder.specs.declared.Mode.{Mode}
-use Rattle.placeholder.specs.declared.whole.Closing.{Closing}
-use Rattle.placeholder.specs.declared.whole.PlaceholderRead.{PlaceholderRead}
+use Rattle.closing.specs.declared.whole.Closing.{Closing}
+use Rattle.closing.specs.declared.whole.PlaceholderRead.{PlaceholderRead}
 use Rattle.reading.specs.Steps.{reading}
 use Rattle.reading.specs.Faults.{faultsOf}
 use Rattle.reading.specs.Records.{isFront, recordOf}

@@ -25,14 +25,14 @@ use Rattle.scan.specs.declared.Number.{Number}
 use Rattle.placeholder.specs.Places.{rawPlace, wordPlace, placeAfter, placeRead}
 use Rattle.placeholder.specs.Specs.{diagnosticType, specRead}
 use Rattle.placeholder.specs.Arguments.{argumentRead}
-use Rattle.placeholder.specs.Recovery.{textTaken, afterQuestion, fieldRead, recoverRead}
-use Rattle.placeholder.specs.Wholes.{missingRead, placeholderRead}
-use Rattle.placeholder.specs.OnwardLaws.{argument-on, recover-on}
+use Rattle.closing.specs.Recovery.{textTaken, afterQuestion, fieldRead, recoverRead}
+use Rattle.closing.specs.Wholes.{missingRead, placeholderRead}
+use Rattle.closing.specs.OnwardLaws.{argument-on, recover-on}
 use Rattle.placeholder.specs.declared.Mode.{Mode}
 use Rattle.placeholder.specs.declared.position.PlaceRead.{PlaceRead}
 use Rattle.placeholder.specs.declared.format.SpecRead.{SpecRead}
-use Rattle.placeholder.specs.declared.recover.Recovery.{Recovery}
-use Rattle.placeholder.specs.declared.whole.PlaceholderRead.{PlaceholderRead}
+use Rattle.closing.specs.declared.recover.Recovery.{Recovery}
+use Rattle.closing.specs.declared.whole.PlaceholderRead.{PlaceholderRead}
 use Rattle.reading.specs.Steps.{afterOpen, afterClose, stepAt, onward, start, reading}
 use Rattle.reading.specs.StepLaws.{step-later, Run, reading-run}
 use Rattle.reading.specs.Lines.{before, charsIn, isNewline, chStart, cut, lineAfter, endedLines, lineStart}

@@ -30,9 +30,9 @@ use Rattle.placeholder.specs.Types.{hexType, debugType, wordType, typeRead}
 use Rattle.placeholder.specs.Format.{formatRead}
 use Rattle.placeholder.specs.Specs.{diagnosticType, afterColon, specRead}
 use Rattle.placeholder.specs.Arguments.{argumentRead}
-use Rattle.placeholder.specs.Recovery.{because, expectedAt, cleanFaults, passedTo, afterQuestion, signHint, isClean, fieldHint, fieldRead, recoverRead}
-use Rattle.placeholder.specs.Defaults.{isIdentifier}
-use Rattle.placeholder.specs.Wholes.{missingRead, placeholderRead}
+use Rattle.closing.specs.Recovery.{because, expectedAt, cleanFaults, passedTo, afterQuestion, signHint, isClean, fieldHint, fieldRead, recoverRead}
+use Rattle.closing.specs.Defaults.{isIdentifier}
+use Rattle.closing.specs.Wholes.{missingRead, placeholderRead}
 use Rattle.placeholder.specs.declared.ArgumentFaults.{ArgumentFaults}
 use Rattle.placeholder.specs.declared.Hex.{Hex}
 use Rattle.placeholder.specs.declared.Mode.{Mode}
@@ -44,9 +44,9 @@ use Rattle.placeholder.specs.declared.format.WidthRead.{WidthRead}
 use Rattle.placeholder.specs.declared.format.PrecisionRead.{PrecisionRead}
 use Rattle.placeholder.specs.declared.format.TypeRead.{TypeRead}
 use Rattle.placeholder.specs.declared.format.SpecRead.{SpecRead}
-use Rattle.placeholder.specs.declared.recover.Recovery.{Recovery}
-use Rattle.placeholder.specs.declared.whole.Closing.{Closing}
-use Rattle.placeholder.specs.declared.whole.PlaceholderRead.{PlaceholderRead}
+use Rattle.closing.specs.declared.recover.Recovery.{Recovery}
+use Rattle.closing.specs.declared.whole.Closing.{Closing}
+use Rattle.closing.specs.declared.whole.PlaceholderRead.{PlaceholderRead}
 
 -- one for a fault, none for a clean slot
 unfoldable pub held : Fault → ℕ

@@ -12,10 +12,10 @@ use Rattle.frame.specs.declared.Frame.{Frame}
 use Rattle.scan.specs.Characters.{consumed}
 use Rattle.scan.specs.ScanLaws.{consumed-on, consumed-some, text-on}
 use Rattle.scan.specs.declared.Fault.{Fault}
-use Rattle.placeholder.specs.Recovery.{isClean}
+use Rattle.closing.specs.Recovery.{isClean}
 use Rattle.placeholder.specs.declared.ArgumentFaults.{ArgumentFaults}
 use Rattle.placeholder.specs.declared.Mode.{Mode}
-use Rattle.placeholder.specs.declared.whole.Closing.{Closing}
+use Rattle.closing.specs.declared.whole.Closing.{Closing}
 use Rattle.reading.specs.Steps.{afterOpen, afterClose, stepAt, onward, reading}
 use Rattle.reading.specs.StepLaws.{step-later, step-on, Run, reading-run}
 use Rattle.reading.specs.Faults.{argumentSlots, missingSlots, closingSlots, stepSlots, wrong, faultsOf}

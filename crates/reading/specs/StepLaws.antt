@@ -17,9 +17,9 @@ use Rattle.frame.specs.declared.TextRange.{TextRange}
 use Rattle.frame.specs.declared.Frame.{Frame}
 use Rattle.scan.specs.Characters.{sees, isAt, consumed, isPlain, textEnd}
 use Rattle.scan.specs.ScanLaws.{seen-elim, consumed-on, consumed-in, consumed-some, text-on, text-in, text-some}
-use Rattle.placeholder.specs.OnwardLaws.{placeholder-on, placeholder-in, placeholder-next}
+use Rattle.closing.specs.OnwardLaws.{placeholder-on, placeholder-in, placeholder-next}
 use Rattle.placeholder.specs.declared.Mode.{Mode}
-use Rattle.placeholder.specs.declared.whole.PlaceholderRead.{PlaceholderRead}
+use Rattle.closing.specs.declared.whole.PlaceholderRead.{PlaceholderRead}
 use Rattle.reading.specs.Steps.{afterOpen, afterClose, stepAt, onward, follow, stepsFrom, start, reading}
 use Rattle.reading.specs.declared.State.{State}
 use Rattle.reading.specs.declared.Step.{Step}
@@ -129,53 +129,11 @@ module _ (t : List ℕ) (f : Frame) (m : Mode) (s : State) where
     pub step-on : s .at .0 < s′ .at .0
     step-on = step-later .on
 
-    -- and stays within the text
-    pub step-in : s′ .at .0 ≤ length t
-    step-in = step-later .inside
-
-module _ (t : List ℕ) (f : Frame) (m : Mode) where
-  -- what follows a step by two ways, where they agree at any later place
-  followed : (s : State) {g h : State → List Step} → ((s′ : State) → Later t s s′ → g s′ ≡ h s′) →
-      follow g (onward (s .next) (stepAt t f m s)) ≡ follow h (onward (s .next) (stepAt t f m s))
-  followed s {g} {h} same = go (onward (s .next) (stepAt t f m s)) (step-goes t f m s)
-    where
-      go : (o : Onward) → Goes t s o → follow g o ≡ follow h o
-      go Onward.Over l = refl
-      go (Onward.To s′) l = same s′ l
-
-  -- with a turn for each byte left and one more, further turns add nothing
-  pub enough : (j k : ℕ) (s : State) → length t - s .at .0 < j → length t - s .at .0 < k → stepsFrom j t f m s ≡ stepsFrom k t f m s
-  unfolding stepsFrom
-  enough zero k s a b = absurd (omega arith)
-  enough (suc j) zero s a b = absurd (omega arith)
-  enough (suc j) (suc k) s a b = ap (_∷_ (stepAt t f m s)) (followed s (λ s′ l. enough j k s′ (omega (arith, l)) (omega (arith, l))))
-
 -- the steps from a state, with no count of turns: each is the step where reading stands, and the last is the one after which it is over
 pub data Run (t : List ℕ) (f : Frame) (m : Mode) : State → List Step → Type 0 where
   last : {s : State} {x : Step} → x ≡ stepAt t f m s → onward (s .next) x ≡ Onward.Over → Run t f m s (x ∷ [])
   more : {s s′ : State} {x : Step} {xs : List Step} → x ≡ stepAt t f m s → onward (s .next) x ≡ Onward.To s′ →
       Run t f m s′ xs → Run t f m s (x ∷ xs)
-
--- the last step, and no other, is the end or a lone `}`
-pub data Ended : List Step → Type 0 where
-  at-end : Ended (Step.End ∷ [])
-  at-brace : {p : TextPlace} → Ended (Step.Stop p ∷ [])
-  literal : {r : TextRange} {xs : List Step} → Ended xs → Ended (Step.Literal r ∷ xs)
-  placeholder : {p : PlaceholderRead} {xs : List Step} → Ended xs → Ended (Step.Placeholder p ∷ xs)
-
--- a step after which reading is over is the last
-ended-over : (n : ℕ) (x : Step) → onward n x ≡ Onward.Over → Ended (x ∷ [])
-ended-over n Step.End o = Ended.at-end
-ended-over n (Step.Stop p) o = Ended.at-brace
-ended-over n (Step.Literal r) o = let z : _≡_ {A = ℕ} 0 1 = cc in absurd (omega arith)
-ended-over n (Step.Placeholder p) o = let z : _≡_ {A = ℕ} 0 1 = cc in absurd (omega arith)
-
--- one after which it goes on is not
-ended-more : (n : ℕ) (x : Step) {s : State} {xs : List Step} → onward n x ≡ Onward.To s → Ended xs → Ended (x ∷ xs)
-ended-more n Step.End o r = let z : _≡_ {A = ℕ} 0 1 = cc in absurd (omega arith)
-ended-more n (Step.Stop p) o r = let z : _≡_ {A = ℕ} 0 1 = cc in absurd (omega arith)
-ended-more n (Step.Literal v) o r = Ended.literal r
-ended-more n (Step.Placeholder p) o r = Ended.placeholder r
 
 module _ (t : List ℕ) (f : Frame) (m : Mode) where
   -- with a turn for each byte left and one more, the steps are a whole run
@@ -193,12 +151,3 @@ module _ (t : List ℕ) (f : Frame) (m : Mode) where
   pub reading-run : Run t f m start (reading t f m)
   unfolding reading
   reading-run = steps-run (length t + 1) start (omega arith)
-
-  -- a run ends at the end or at a lone `}`
-  pub run-ended : {s : State} {xs : List Step} → Run t f m s xs → Ended xs
-  run-ended {s} (Run.last {x = x} e o) = ended-over (s .next) x o
-  run-ended {s} (Run.more {x = x} e o r) = ended-more (s .next) x o (run-ended r)
-
-  -- and so does the reading of a text
-  pub reading-ended : Ended (reading t f m)
-  reading-ended = run-ended reading-run

@@ -8,7 +8,7 @@ use Rattle.frame.specs.Places.{place, rangeOf}
 use Rattle.frame.specs.declared.TextPlace.{TextPlace}
 use Rattle.frame.specs.declared.Frame.{Frame}
 use Rattle.scan.specs.Characters.{consumed, textEnd}
-use Rattle.placeholder.specs.Wholes.{placeholderRead}
+use Rattle.closing.specs.Wholes.{placeholderRead}
 use Rattle.placeholder.specs.declared.Mode.{Mode}
 use Rattle.reading.specs.declared.State.{State}
 use Rattle.reading.specs.declared.Step.{Step}

@@ -1,14 +1,12 @@
 // One step of the reader, the run over a whole text, and what a reading comes to: pieces, errors, argument places, line spans.
+use closing::whole::PlaceholderRead;
 use frame::Span;
 use frame::TextPlace;
 use frame::TextRange;
 use placeholder::Argument;
 use placeholder::MaybeSpan;
-use placeholder::whole::PlaceholderRead;
 
 pub mod steps; // steps.rt: one step
-pub mod faults; // faults.rt: what a step found wrong, and the error record of each fault
-pub mod tally; // tally.rt: how many records a reading needs
 pub mod text; // text.rt: a literal's bytes
 
 // Where reading stands, and the next argument's number.

@@ -29,7 +29,7 @@ fn after_open(
         let end = scan::string_end(text, past);
         return Step::Literal(TextRange { start: at, end });
     }
-    Step::Placeholder(placeholder::whole::placeholder(text, frame, mode, brace, at, next))
+    Step::Placeholder(closing::whole::placeholder(text, frame, mode, brace, at, next))
 }
 
 // After the `}` at `brace`: a second one doubles it; alone it stops the reading.

@@ -193,16 +193,6 @@ module _ (t : List ℕ) (at : TextPlace) where
       (λ c w e.
       pick-elim (λ (p : TextPlace). p .0 ≤ length t) (isStart c) (λ _. run-in isContinue t (at .0 + w) (peeked t (at .0) e .room)) (λ _. h))
 
-  -- a start begins a word
-  pub word-some : {c w : ℕ} → peekAt t (at .0) ≡ Char c w → isStart c ≡ true → at .0 < wordEnd t at .0
-  unfolding wordEnd pick
-  word-some {c} {w} e y = rw (e, y) (omega (arith, peeked t (at .0) e .some, run-on isContinue t (at .0 + w)))
-
-  -- the bytes of a word
-  pub word-range : wordRead t at .word ≡ rangeOf at (wordEnd t at)
-  unfolding wordRead
-  word-range = refl
-
   -- the bytes of a number
   pub number-range : numberRead t at .digits ≡ rangeOf at (place (runEnd isDigit t (at .0)))
   unfolding numberRead numberFrom

@@ -152,14 +152,19 @@ pub fn string_end(text: &[u8], at: TextPlace) -> TextPlace
     if text.len() <= i {
         return at;
     }
-    let from = plain_blocks(text, i);
-    TextPlace(brace_place(text, from))
+    // Most literals between placeholders are short: blocks are tried from the sixteenth byte on.
+    let near = brace_before(text, i, i + 16);
+    if near < i + 16 {
+        return TextPlace(near);
+    }
+    let from = plain_blocks(text, near);
+    TextPlace(brace_before(text, from, text.len() + 1))
 }
 
 // The place after the blocks of sixteen bytes without a brace at `at`. A block is one test.
 fn plain_blocks(text: &[u8], at: usize) -> usize
     requires { ⌜ at ≤ length (now text) ⌝ }
-    ensures { λ r. ⌜ runEnd isPlain (now (text .entry)) r ≡ runEnd isPlain (now (text .entry)) at ⌝ }
+    ensures { λ r. ⌜ (runEnd isPlain (now (text .entry)) r ≡ runEnd isPlain (now (text .entry)) at) × (r ≤ length (now (text .entry))) ⌝ }
 {
     let mut i = at;
     while i + 16 <= text.len() {
@@ -171,12 +176,17 @@ fn plain_blocks(text: &[u8], at: usize) -> usize
     i
 }
 
-// The place of the first brace from `at` on, or the end.
-fn brace_place(text: &[u8], at: usize) -> usize
-    ensures { λ r. ⌜ r ≡ runEnd isPlain (now (text .entry)) at ⌝ }
+// The place of the first brace from `at` on, or the end, if it is before `limit`; else a place up to which there is none.
+fn brace_before(text: &[u8], at: usize, limit: usize) -> usize
+    requires { ⌜ at ≤ length (now text) ⌝ }
+    ensures { λ r. ⌜ (runEnd isPlain (now (text .entry)) r ≡ runEnd isPlain (now (text .entry)) at) × (r ≤ length (now (text .entry))) ⌝ }
+    ensures { λ r. ⌜ (r < limit → r ≡ runEnd isPlain (now (text .entry)) at) ⌝ }
 {
     let mut i = at;
-    while i < text.len() {
+    while i < limit {
+        if text.len() <= i {
+            return i;
+        }
         if brace(text[i]) != 0 {
             return i;
         }

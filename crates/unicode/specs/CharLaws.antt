@@ -139,12 +139,6 @@ first t i c cs e = go (peekAt t i) refl
           rest = ap (λ (k : ℕ). charsFrom t (i + k)) (sym qw) ∙ r;
         }
 
--- THE BRIDGE: where the characters from i are p and then q, those from past p's bytes are q
-pub after : (t : List ℕ) (p q : List Ch) (i : ℕ) → charsFrom t i ≡ p ++ q → charsFrom t (i + bytes p) ≡ q
-unfolding bytes
-after t [] q i e = rw add-zero e
-after t (c ∷ p) q i e = rw (← add-assoc) (after t p q (i + c .width) (first t i c (p ++ q) e .rest))
-
 -- where no character is left, the text has ended
 pub none-left : (t : List ℕ) (i : ℕ) → charsFrom t i ≡ [] → length t ≤ i
 none-left t i e = go (peekAt t i) refl
@@ -238,8 +232,3 @@ run-split f (c ∷ cs) = go (f (c .code)) (run-split f cs)
     go : (b : Bool) → takeWhile f cs ++ dropWhile f cs ≡ cs → pick b (c ∷ takeWhile f cs) [] ++ pick b (dropWhile f cs) (c ∷ cs) ≡ c ∷ cs
     go true e = ap (_∷_ c) e
     go false e = refl
-
--- where a run ends, the list is what it leaves
-pub run-rest : (f : ℕ → Bool) (t : List ℕ) (i : ℕ) → charsFrom t (runEnd f t i) ≡ dropWhile f (charsFrom t i)
-unfolding runEnd
-run-rest f t i = after t (takeWhile f (charsFrom t i)) (dropWhile f (charsFrom t i)) i (sym (run-split f (charsFrom t i)))

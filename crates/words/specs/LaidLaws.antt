@@ -59,10 +59,6 @@ module _ {A : Type 0} (old : List A) (k : ℕ) where
         let j : k + length (xs ++ ys) ≡ m + length ys = omega (arith, length-append xs ys) in
         rw (j, a, d) (simp append-assoc)
 
-  -- a store is one laid
-  pub set-laid : (x : A) → k < length old → set old k x ≡ laid old k (x ∷ [])
-  set-laid x h = laid-sets (x ∷ []) (omega arith)
-
 -- LENGTHS
 pub fillWords-length : (f : Fill) → length (fillWords f) ≡ 4
 fillWords-length Fill.Absent = refl

@@ -26,18 +26,18 @@ use Rattle.placeholder.specs.Format.{formatRead}
 use Rattle.placeholder.specs.Specs.{typeOnly, diagnosticType, afterColon, specRead}
 use Rattle.placeholder.specs.Places.{placeRead}
 use Rattle.placeholder.specs.Arguments.{resolved, joined, argumentRead}
-use Rattle.placeholder.specs.Defaults.{noFill, noSpan, noMarks, noCounts, isDefault, isIdentifier}
-use Rattle.placeholder.specs.Recovery.{because, expectedSeen, expectedAt, passedTo, textTaken, signHint, isClean, fieldAfter, fieldRead, recoverRead}
-use Rattle.placeholder.specs.Wholes.{wholeOf, missingRead, placeholderRead}
+use Rattle.closing.specs.Defaults.{noFill, noSpan, noMarks, noCounts, isDefault, isIdentifier}
+use Rattle.closing.specs.Recovery.{because, expectedSeen, expectedAt, passedTo, textTaken, signHint, isClean, fieldAfter, fieldRead, recoverRead}
+use Rattle.closing.specs.Wholes.{wholeOf, missingRead, placeholderRead}
 use Rattle.placeholder.specs.declared.Fill.{Fill}
 use Rattle.placeholder.specs.declared.Mode.{Mode}
 use Rattle.placeholder.specs.declared.Place.{Place}
 use Rattle.placeholder.specs.declared.Spec.{Spec}
 use Rattle.placeholder.specs.declared.position.PlaceRead.{PlaceRead}
 use Rattle.placeholder.specs.declared.between.ArgumentRead.{ArgumentRead}
-use Rattle.placeholder.specs.declared.recover.Recovery.{Recovery}
-use Rattle.placeholder.specs.declared.whole.Closing.{Closing}
-use Rattle.placeholder.specs.declared.whole.PlaceholderRead.{PlaceholderRead}
+use Rattle.closing.specs.declared.recover.Recovery.{Recovery}
+use Rattle.closing.specs.declared.whole.Closing.{Closing}
+use Rattle.closing.specs.declared.whole.PlaceholderRead.{PlaceholderRead}
 use Rattle.placeholder.specs.declared.MaybeSpan.{MaybeSpan}
 use Rattle.placeholder.specs.declared.format.FillRead.{FillRead}
 use Rattle.placeholder.specs.declared.format.WidthRead.{WidthRead}

@@ -14,7 +14,7 @@ use Rattle.frame.specs.declared.TextPlace.{TextPlace}
 use Rattle.frame.specs.declared.Frame.{Frame}
 use Rattle.scan.specs.Characters.{spacesPast}
 use Rattle.scan.specs.declared.Fault.{Fault}
-use Rattle.placeholder.specs.Recovery.{isClean}
+use Rattle.closing.specs.Recovery.{isClean}
 use Rattle.placeholder.specs.Places.{placeRead}
 use Rattle.placeholder.specs.Specs.{noSpec, afterColon, specRead}
 use Rattle.placeholder.specs.Arguments.{resolved, argumentRead}

@@ -20,10 +20,10 @@ use Rattle.frame.specs.declared.Frame.{Frame}
 use Rattle.scan.specs.Characters.{sees, isAt, consumed, isPlain, textEnd}
 use Rattle.scan.specs.ScanLaws.{seen-elim, is-at-in, is-at-byte, consumed-some, consumed-is, text-on, text-in, text-some}
 use Rattle.scan.specs.declared.Fault.{Fault}
-use Rattle.placeholder.specs.Wholes.{placeholderRead, missingRead}
-use Rattle.placeholder.specs.OnwardLaws.{placeholder-on, placeholder-in}
+use Rattle.closing.specs.Wholes.{placeholderRead, missingRead}
+use Rattle.closing.specs.OnwardLaws.{placeholder-on, placeholder-in}
 use Rattle.placeholder.specs.declared.Mode.{Mode}
-use Rattle.placeholder.specs.declared.whole.PlaceholderRead.{PlaceholderRead}
+use Rattle.closing.specs.declared.whole.PlaceholderRead.{PlaceholderRead}
 use Rattle.reading.specs.Steps.{stateOf, afterOpen, afterClose, stepAt, onward, follow, stepsFrom, start, reading}
 use Rattle.reading.specs.Faults.{stepSlots, wrong, faultsOf}
 use Rattle.reading.specs.Records.{isFront, recordOf}

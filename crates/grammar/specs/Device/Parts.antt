@@ -14,7 +14,7 @@ use Rattle.scan.specs.Characters.{consumed}
 use Rattle.scan.specs.Words.{isDigit}
 use Rattle.scan.specs.Ends.{spanAcross}
 use Rattle.scan.specs.Counts.{countRead}
-use Rattle.placeholder.specs.Recovery.{isClean}
+use Rattle.closing.specs.Recovery.{isClean}
 use Rattle.placeholder.specs.Parts.{isAlign, fillSeen, fillRead, alignRead, signRead, plainWidth, widthRead, afterDot, precisionRead}
 use Rattle.placeholder.specs.declared.Align.{Align}
 use Rattle.placeholder.specs.declared.Fill.{Fill}

@@ -14,7 +14,7 @@ use Rattle.frame.specs.declared.TextPlace.{TextPlace}
 use Rattle.frame.specs.declared.TextRange.{TextRange}
 use Rattle.scan.specs.Words.{isDigit}
 use Rattle.scan.specs.declared.Fault.{Fault}
-use Rattle.placeholder.specs.Recovery.{isClean}
+use Rattle.closing.specs.Recovery.{isClean}
 use Rattle.placeholder.specs.Places.{placed, isR, rawPlace, wordAfter, wordPlace, placeRead}
 use Rattle.placeholder.specs.declared.position.Found.{Found}
 use Rattle.placeholder.specs.declared.position.PlaceRead.{PlaceRead}

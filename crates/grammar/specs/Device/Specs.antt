@@ -12,7 +12,7 @@ use Rattle.frame.specs.declared.TextRange.{TextRange}
 use Rattle.frame.specs.declared.Frame.{Frame}
 use Rattle.scan.specs.Characters.{consumed, isPlain}
 use Rattle.scan.specs.declared.Consumed.{Consumed}
-use Rattle.placeholder.specs.Recovery.{isClean}
+use Rattle.closing.specs.Recovery.{isClean}
 use Rattle.placeholder.specs.Parts.{fillRead, alignRead, signRead, widthRead, precisionRead}
 use Rattle.placeholder.specs.Types.{wordType}
 use Rattle.placeholder.specs.Format.{formatRead}

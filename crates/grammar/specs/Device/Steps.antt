@@ -20,15 +20,15 @@ use Rattle.frame.specs.declared.Span.{Span}
 use Rattle.frame.specs.declared.Frame.{Frame}
 use Rattle.scan.specs.Characters.{consumed, isPlain, spacesPast, textEnd}
 use Rattle.scan.specs.declared.Fault.{Fault}
-use Rattle.placeholder.specs.Recovery.{isClean, expectedSeen, expectedAt}
+use Rattle.closing.specs.Recovery.{isClean, expectedSeen, expectedAt}
 use Rattle.placeholder.specs.Places.{placeRead}
 use Rattle.placeholder.specs.Arguments.{argumentRead}
-use Rattle.placeholder.specs.Wholes.{recordOf, missingRead, placeholderRead}
+use Rattle.closing.specs.Wholes.{recordOf, missingRead, placeholderRead}
 use Rattle.placeholder.specs.declared.Argument.{Argument}
 use Rattle.placeholder.specs.declared.Mode.{Mode}
 use Rattle.placeholder.specs.declared.between.ArgumentRead.{ArgumentRead}
-use Rattle.placeholder.specs.declared.whole.Closing.{Closing}
-use Rattle.placeholder.specs.declared.whole.PlaceholderRead.{PlaceholderRead}
+use Rattle.closing.specs.declared.whole.Closing.{Closing}
+use Rattle.closing.specs.declared.whole.PlaceholderRead.{PlaceholderRead}
 use Rattle.reading.specs.Steps.{stateOf, afterOpen, afterClose, stepAt, onward}
 use Rattle.reading.specs.Faults.{argumentSlots, missingSlots, closingSlots, stepSlots, wrong as wrongOnes, faultsOf}
 use Rattle.reading.specs.Lists.{piecesOf}

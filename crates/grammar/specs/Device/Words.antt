@@ -24,7 +24,7 @@ use Rattle.scan.specs.declared.Number.{Number}
 use Rattle.scan.specs.declared.NumberRead.{NumberRead}
 use Rattle.scan.specs.declared.Count.{Count}
 use Rattle.scan.specs.declared.CountRead.{CountRead}
-use Rattle.placeholder.specs.Recovery.{isClean}
+use Rattle.closing.specs.Recovery.{isClean}
 use Rattle.grammar.specs.Grammar.{value, Width}
 use Rattle.grammar.specs.Pieces.{wide, size, IsWidth}
 use Rattle.grammar.specs.Device.Runs.{caseB, takeW, dropW, Stops, take-drop}

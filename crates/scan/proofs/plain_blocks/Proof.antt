@@ -37,7 +37,7 @@ add-if1 : tie.Need-add-if1 Inv-loop μ-loop
 add-if1 c = omega arith
 
 returns : tie.Need-returns Inv-loop μ-loop
-returns c = c .before .before .before .before .loop .inv .1
+returns c = (c .before .before .before .before .loop .inv .1, c .before .before .before .before .loop .inv .0)
 
 add-i : tie.Need-add-i Inv-loop μ-loop
 add-i c = omega arith
@@ -53,7 +53,7 @@ loop-again c =
     (omega arith, run-block isPlain plain-high t i 16 (omega arith) (how-many-add isBrace t i 8 8 ∙ omega arith) ∙ l .loop .inv .1)
 
 returns-2 : tie.Need-returns-2 Inv-loop μ-loop
-returns-2 c = c .before .loop .inv .1
+returns-2 c = (c .before .loop .inv .1, c .before .loop .inv .0)
 
 pub plain-blocks-spec : {M : Type 1} → statement M
 plain-blocks-spec =

@@ -50,7 +50,7 @@ use Rattle.reading.specs.Lists.{pieces, errors, places, lines}
 use Rattle.reading.specs.declared.Piece.{Piece}
 use Rattle.reading.specs.declared.ErrorRecord.{ErrorRecord}
 use Rattle.answer.specs.Answers.{Decided}
-use Rattle.answer.specs.Exits.{over, pairs}
+use Rattle.reading.specs.Written.{over, pairs}
 use Rattle.answer.specs.declared.Request.{Request}
 use Rattle.answer.specs.declared.Rooms.{Rooms}
 use Rattle.answer.specs.declared.Answer.{Answer}
@@ -79,14 +79,14 @@ use Rattle.answer.proofs.decide.decide as dc
 use Rattle.answer.proofs.decide.decide.Symbol as dc-def
 use Rattle.answer.proofs.decide.decide.Symbol.{name as #answer·decide·decide}
 use Rattle.answer.proofs.decide.decide.Met as dc-thm
-use Rattle.answer.proofs.spans.fill_places as fl
-use Rattle.answer.proofs.spans.fill_places.Symbol as fl-def
-use Rattle.answer.proofs.spans.fill_places.Symbol.{name as #answer·spans·fill-places}
-use Rattle.answer.proofs.spans.fill_places.Met as fl-thm
-use Rattle.answer.proofs.spans.fill_lines as fn
-use Rattle.answer.proofs.spans.fill_lines.Symbol as fn-def
-use Rattle.answer.proofs.spans.fill_lines.Symbol.{name as #answer·spans·fill-lines}
-use Rattle.answer.proofs.spans.fill_lines.Met as fn-thm
+use Rattle.spans.proofs.fill_places as fl
+use Rattle.spans.proofs.fill_places.Symbol as fl-def
+use Rattle.spans.proofs.fill_places.Symbol.{name as #spans·fill-places}
+use Rattle.spans.proofs.fill_places.Met as fl-thm
+use Rattle.spans.proofs.fill_lines as fn
+use Rattle.spans.proofs.fill_lines.Symbol as fn-def
+use Rattle.spans.proofs.fill_lines.Symbol.{name as #spans·fill-lines}
+use Rattle.spans.proofs.fill_lines.Met as fn-thm
 use Rattle.reader.proofs.lists.fill_pieces as fp
 use Rattle.reader.proofs.lists.fill_pieces.Symbol as fp-def
 use Rattle.reader.proofs.lists.fill_pieces.Symbol.{name as #reader·lists·fill-pieces}
@@ -285,7 +285,7 @@ module _ {M : Type 1} (𝓤 : URA M) (H : Heap 𝓤) (A : Atoms 𝓤) (W : Given
   said-decide d = exE 𝓤 _ (λ ws. snd∗ 𝓤 (sem 𝓤 H A (lasts dc.ended (κt, (κs, tt)) (xt, (xs, (rq, (rooms, tt)))) ws)) (fact 𝓤 (Decided ts ss′ rq rooms d)))
 
   module _ (C : Calls 𝓤 H) (Λ : Loops 𝓤 H) (fm : FmC 𝓤 H (W .laws) C) (known-decide : Triple 𝓤 (C #answer·decide·decide) (Decide 𝓤 H A mem run)) (known-pieces : Triple 𝓤 (C #reader·lists·fill-pieces) (Pieces 𝓤 H A mem run))
-      (known-errors : Triple 𝓤 (C #reader·lists·fill-errors) (Errors 𝓤 H A mem run)) (known-places : Triple 𝓤 (C #answer·spans·fill-places) (Places 𝓤 H A mem run)) (known-lines : Triple 𝓤 (C #answer·spans·fill-lines) (Lines 𝓤 H A mem run)) where
+      (known-errors : Triple 𝓤 (C #reader·lists·fill-errors) (Errors 𝓤 H A mem run)) (known-places : Triple 𝓤 (C #spans·fill-places) (Places 𝓤 H A mem run)) (known-lines : Triple 𝓤 (C #spans·fill-lines) (Lines 𝓤 H A mem run)) where
     module _ (l₀ l₁ l₂ l₃ l₄ l₅ l₆ l₇ l₈ l₉ l₁₀ l₁₁ l₁₂ l₁₃ l₁₄ l₁₅ l₁₆ l₁₇ l₁₈ l₁₉ l₂₀ l₂₁ l₂₂ l₂₃ l₂₄ l₂₅ l₂₆ l₂₇ l₂₈ l₂₉ l₃₀ l₃₁ : ℕ) where
       abbrev word : Ty
       word = tyInt w64
@@ -536,7 +536,7 @@ module _ {M : Type 1} (𝓤 : URA M) (H : Heap 𝓤) (A : Atoms 𝓤) (W : Given
 
 module _ {M : Type 1} (𝓤 : URA M) (H : Heap 𝓤) (A : Atoms 𝓤) (W : Given 𝓤 H A) (mem : Memory → SProp 𝓤) (run : Routine → Fun 𝓤) (𝓣 : Tables 𝓤 H) (known-decide : Triple 𝓤 (𝓣 .C #answer·decide·decide) (Decide 𝓤 H A mem run))
     (known-pieces : Triple 𝓤 (𝓣 .C #reader·lists·fill-pieces) (Pieces 𝓤 H A mem run)) (known-errors : Triple 𝓤 (𝓣 .C #reader·lists·fill-errors) (Errors 𝓤 H A mem run))
-    (known-places : Triple 𝓤 (𝓣 .C #answer·spans·fill-places) (Places 𝓤 H A mem run)) (known-lines : Triple 𝓤 (𝓣 .C #answer·spans·fill-lines) (Lines 𝓤 H A mem run)) where
+    (known-places : Triple 𝓤 (𝓣 .C #spans·fill-places) (Places 𝓤 H A mem run)) (known-lines : Triple 𝓤 (𝓣 .C #spans·fill-lines) (Lines 𝓤 H A mem run)) where
   walks : Walks 𝓤 H A f.ended stayed (WpFn 𝓤 H (𝓣 .C) (𝓣 .Λ) code.function) (f.clauses 𝓤 H A mem run)
   walks = walked 𝓤 H A f.ended stayed (f.clauses 𝓤 H A mem run) (WpFn 𝓤 H (𝓣 .C) (𝓣 .Λ) code.function)
       (λ κs. (slice-vals, (slice-vals, (LL.vals Rq.the-type Rq′.the-laws, (slice-vals, (slice-vals, (slice-vals, (slice-vals, tt))))))))
@@ -583,5 +583,5 @@ read-spec 𝓤 H 𝓜 𝓖 𝓡 =
     (cited 𝓤 H (Decide 𝓤 H (𝓖 .A) (𝓜 .mem) (𝓡 .run)) 𝓜 𝓡 code.env #answer·decide·decide dc-def.routine code.calls-answer·decide·decide (dc-thm.met 𝓤 H 𝓜 𝓖 𝓡))
     (cited 𝓤 H (Pieces 𝓤 H (𝓖 .A) (𝓜 .mem) (𝓡 .run)) 𝓜 𝓡 code.env #reader·lists·fill-pieces fp-def.routine code.calls-reader·lists·fill-pieces (fp-thm.met 𝓤 H 𝓜 𝓖 𝓡))
     (cited 𝓤 H (Errors 𝓤 H (𝓖 .A) (𝓜 .mem) (𝓡 .run)) 𝓜 𝓡 code.env #reader·lists·fill-errors fe-def.routine code.calls-reader·lists·fill-errors (fe-thm.met 𝓤 H 𝓜 𝓖 𝓡))
-    (cited 𝓤 H (Places 𝓤 H (𝓖 .A) (𝓜 .mem) (𝓡 .run)) 𝓜 𝓡 code.env #answer·spans·fill-places fl-def.routine code.calls-answer·spans·fill-places (fl-thm.met 𝓤 H 𝓜 𝓖 𝓡))
-    (cited 𝓤 H (Lines 𝓤 H (𝓖 .A) (𝓜 .mem) (𝓡 .run)) 𝓜 𝓡 code.env #answer·spans·fill-lines fn-def.routine code.calls-answer·spans·fill-lines (fn-thm.met 𝓤 H 𝓜 𝓖 𝓡)))
+    (cited 𝓤 H (Places 𝓤 H (𝓖 .A) (𝓜 .mem) (𝓡 .run)) 𝓜 𝓡 code.env #spans·fill-places fl-def.routine code.calls-spans·fill-places (fl-thm.met 𝓤 H 𝓜 𝓖 𝓡))
+    (cited 𝓤 H (Lines 𝓤 H (𝓖 .A) (𝓜 .mem) (𝓡 .run)) 𝓜 𝓡 code.env #spans·fill-lines fn-def.routine code.calls-spans·fill-lines (fn-thm.met 𝓤 H 𝓜 𝓖 𝓡)))

@@ -47,7 +47,7 @@ use denote.Exit.{yes}
 use denote.Signature.{plain}
 use Rattle.reading.specs.declared.Piece.{Piece}
 use Rattle.reading.specs.declared.ErrorRecord.{ErrorRecord}
-use Rattle.answer.specs.Turns.{noPiece}
+use Rattle.turns.specs.Turns.{noPiece}
 use Rattle.answer.specs.declared.Request.{Request}
 use Rattle.answer.specs.declared.Answer.{Answer}
 use Rattle.reader.specs.declared.call.Reading.{Reading}

@@ -51,11 +51,11 @@ use Rattle.frame.specs.declared.Frame.{Frame}
 use Rattle.placeholder.specs.declared.Mode.{Mode}
 use Rattle.reading.specs.Lists.{errors}
 use Rattle.reading.specs.declared.ErrorRecord.{ErrorRecord}
-use Rattle.answer.specs.Exits.{over}
-use Rattle.answer.specs.Turns.{Fresh, firstCursor, FaultNext}
-use Rattle.answer.specs.TurnLaws.{fresh-first}
-use Rattle.answer.specs.declared.Cursor.{Cursor}
-use Rattle.answer.specs.declared.FaultTurn.{FaultTurn}
+use Rattle.reading.specs.Written.{over}
+use Rattle.turns.specs.Turns.{Fresh, firstCursor, FaultNext}
+use Rattle.turns.specs.TurnLaws.{fresh-first}
+use Rattle.turns.specs.declared.Cursor.{Cursor}
+use Rattle.turns.specs.declared.FaultTurn.{FaultTurn}
 use Rattle.reader.specs.Lent.{put}
 use Rattle.reader.proofs.Again.{LentAgain, lends-again, comes-back}
 use Rattle.reader.proofs.Bits.{after, holds, fails}
@@ -68,18 +68,18 @@ use Rattle.placeholder.proofs.Mode as Mo
 use Rattle.placeholder.proofs.Mode.Laws as Mo′
 use Rattle.reading.proofs.ErrorRecord as Er
 use Rattle.reading.proofs.ErrorRecord.Laws as Er′
-use Rattle.answer.proofs.Cursor as Cu
-use Rattle.answer.proofs.Cursor.Laws as Cu′
-use Rattle.answer.proofs.FaultTurn as Tu
-use Rattle.answer.proofs.FaultTurn.Laws as Tu′
-use Rattle.answer.proofs.turns.first_cursor as fc
-use Rattle.answer.proofs.turns.first_cursor.Symbol as fc-def
-use Rattle.answer.proofs.turns.first_cursor.Symbol.{name as #answer·turns·first-cursor}
-use Rattle.answer.proofs.turns.first_cursor.Met as fc-thm
-use Rattle.answer.proofs.turns.next_fault as nx
-use Rattle.answer.proofs.turns.next_fault.Symbol as nx-def
-use Rattle.answer.proofs.turns.next_fault.Symbol.{name as #answer·turns·next-fault}
-use Rattle.answer.proofs.turns.next_fault.Met as nx-thm
+use Rattle.turns.proofs.Cursor as Cu
+use Rattle.turns.proofs.Cursor.Laws as Cu′
+use Rattle.turns.proofs.FaultTurn as Tu
+use Rattle.turns.proofs.FaultTurn.Laws as Tu′
+use Rattle.turns.proofs.first_cursor as fc
+use Rattle.turns.proofs.first_cursor.Symbol as fc-def
+use Rattle.turns.proofs.first_cursor.Symbol.{name as #turns·first-cursor}
+use Rattle.turns.proofs.first_cursor.Met as fc-thm
+use Rattle.turns.proofs.next_fault as nx
+use Rattle.turns.proofs.next_fault.Symbol as nx-def
+use Rattle.turns.proofs.next_fault.Symbol.{name as #turns·next-fault}
+use Rattle.turns.proofs.next_fault.Met as nx-thm
 use Rattle.reader.proofs.lists.put as pb
 use Rattle.reader.proofs.lists.put.Symbol as pb-def
 use Rattle.reader.proofs.lists.put.Symbol.{name as #reader·lists·put}
@@ -250,8 +250,8 @@ module _ {M : Type 1} (𝓤 : URA M) (H : Heap 𝓤) (A : Atoms 𝓤) (W : Given
         nothing ! $ move ! (1 ∷ 0 ∷ []) $ fjoin ! $ owned ! Mo.the-row (Is Mo.the-row) (TL.makes Mo.the-type Mo′.the-plain 𝓤 H A) md _ ism $ fjoin ! $
         owned ! Fr.the-row (Is Fr.the-row) (LL.makes Fr.the-type Fr′.the-plain 𝓤 H A) fr _ isf $ fjoin ! $ move ! (1 ∷ 0 ∷ []) $ fjoin ! $ frame ! $ owned ! usize (Is usize) (uint-makes 𝓤 H A W w64) (n x) _ (refl, n-fits x) $ done !
 
-  module _ (𝓣 : Tables 𝓤 H) (fm : FmC 𝓤 H (W .laws) (𝓣 .C)) (known-first : Triple 𝓤 (𝓣 .C #answer·turns·first-cursor) (First 𝓤 H A mem run))
-      (known-next : Triple 𝓤 (𝓣 .C #answer·turns·next-fault) (Next 𝓤 H A mem run)) (known-push : Triple 𝓤 (𝓣 .C #reader·lists·put) (Push 𝓤 H A mem run)) where
+  module _ (𝓣 : Tables 𝓤 H) (fm : FmC 𝓤 H (W .laws) (𝓣 .C)) (known-first : Triple 𝓤 (𝓣 .C #turns·first-cursor) (First 𝓤 H A mem run))
+      (known-next : Triple 𝓤 (𝓣 .C #turns·next-fault) (Next 𝓤 H A mem run)) (known-push : Triple 𝓤 (𝓣 .C #reader·lists·put) (Push 𝓤 H A mem run)) where
     module _ (l₀ l₁ l₂ l₃ l₄ l₅ l₆ l₇ l₈ l₉ l₁₀ : ℕ) where
       abbrev C : Calls 𝓤 H
       C = 𝓣 .C
@@ -429,8 +429,8 @@ module _ {M : Type 1} (𝓤 : URA M) (H : Heap 𝓤) (A : Atoms 𝓤) (W : Given
         -- [what errors owns; true; mode's and frame's; what text owns; errors's token; true; text's token; _10; …; _0; …]
         keep ! (4 ∷ 0 ∷ 5 ∷ 6 ∷ 7 ∷ 8 ∷ 9 ∷ 10 ∷ 11 ∷ 12 ∷ 13 ∷ 14 ∷ 15 ∷ 16 ∷ 17 ∷ 18 ∷ 19 ∷ 20 ∷ 21 ∷ 22 ∷ 23 ∷ 24 ∷ 25 ∷ 26 ∷ 27 ∷ 28 ∷ 29 ∷ []) $ enters l₀ l₁ l₂ l₃ l₄ l₅ l₆ l₇ l₈ l₉ l₁₀)))))))))))
 
-module _ {M : Type 1} (𝓤 : URA M) (H : Heap 𝓤) (A : Atoms 𝓤) (W : Given 𝓤 H A) (mem : Memory → SProp 𝓤) (run : Routine → Fun 𝓤) (𝓣 : Tables 𝓤 H) (known-first : Triple 𝓤 (𝓣 .C #answer·turns·first-cursor) (First 𝓤 H A mem run))
-    (known-next : Triple 𝓤 (𝓣 .C #answer·turns·next-fault) (Next 𝓤 H A mem run)) (known-push : Triple 𝓤 (𝓣 .C #reader·lists·put) (Push 𝓤 H A mem run)) where
+module _ {M : Type 1} (𝓤 : URA M) (H : Heap 𝓤) (A : Atoms 𝓤) (W : Given 𝓤 H A) (mem : Memory → SProp 𝓤) (run : Routine → Fun 𝓤) (𝓣 : Tables 𝓤 H) (known-first : Triple 𝓤 (𝓣 .C #turns·first-cursor) (First 𝓤 H A mem run))
+    (known-next : Triple 𝓤 (𝓣 .C #turns·next-fault) (Next 𝓤 H A mem run)) (known-push : Triple 𝓤 (𝓣 .C #reader·lists·put) (Push 𝓤 H A mem run)) where
   walks : Walks 𝓤 H A f.ended stayed (WpFn 𝓤 H (𝓣 .C) (𝓣 .Λ) code.function) (f.clauses 𝓤 H A mem run)
   walks = walked 𝓤 H A f.ended stayed (f.clauses 𝓤 H A mem run) (WpFn 𝓤 H (𝓣 .C) (𝓣 .Λ) code.function)
       (λ κs. (slice-vals, (LL.vals Fr.the-type Fr′.the-laws, (TL.vals Mo.the-type Mo′.the-laws, (slice-vals, tt)))))
@@ -449,6 +449,6 @@ fill-errors-spec 𝓤 H 𝓜 𝓖 𝓡 =
     entered 𝓤 H (tripleOf 𝓤 H (𝓖 .A) f.signature (f.spec 𝓤 H (𝓖 .A) (𝓜 .mem) (𝓡 .run)))
     (tables 𝓤 H 𝓜 𝓡 code.env .C) (tables 𝓤 H 𝓜 𝓡 code.env .Λ) #reader·lists·fill-errors code.function (code.unfolded 𝓤 H 𝓜 𝓡)
     (meets 𝓤 H (𝓖 .A) (givenOf 𝓤 H 𝓜 𝓖) (𝓜 .mem) (𝓡 .run) (tablesOf 𝓤 H 𝓜 (tables 𝓤 H 𝓜 𝓡 code.env))
-    (cited 𝓤 H (First 𝓤 H (𝓖 .A) (𝓜 .mem) (𝓡 .run)) 𝓜 𝓡 code.env #answer·turns·first-cursor fc-def.routine code.calls-answer·turns·first-cursor (fc-thm.met 𝓤 H 𝓜 𝓖 𝓡))
-    (cited 𝓤 H (Next 𝓤 H (𝓖 .A) (𝓜 .mem) (𝓡 .run)) 𝓜 𝓡 code.env #answer·turns·next-fault nx-def.routine code.calls-answer·turns·next-fault (nx-thm.met 𝓤 H 𝓜 𝓖 𝓡))
+    (cited 𝓤 H (First 𝓤 H (𝓖 .A) (𝓜 .mem) (𝓡 .run)) 𝓜 𝓡 code.env #turns·first-cursor fc-def.routine code.calls-turns·first-cursor (fc-thm.met 𝓤 H 𝓜 𝓖 𝓡))
+    (cited 𝓤 H (Next 𝓤 H (𝓖 .A) (𝓜 .mem) (𝓡 .run)) 𝓜 𝓡 code.env #turns·next-fault nx-def.routine code.calls-turns·next-fault (nx-thm.met 𝓤 H 𝓜 𝓖 𝓡))
     (cited 𝓤 H (Push 𝓤 H (𝓖 .A) (𝓜 .mem) (𝓡 .run)) 𝓜 𝓡 code.env #reader·lists·put pb-def.routine code.calls-reader·lists·put (pb-thm.met 𝓤 H 𝓜 𝓖 𝓡)))

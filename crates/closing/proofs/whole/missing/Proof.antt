@@ -1,0 +1,54 @@
+-- `placeholder::whole::missing` meets its contract: it is the definition, call by call.
+use borrow.Author.Needs.{needs}
+use Rattle.closing.specs.Wholes.{missingRead}
+use Rattle.closing.proofs.whole.missing.Statement.{statement}
+use Rattle.closing.proofs.whole.missing.Tie as tie
+
+span-across-requires : tie.Need-span-across-requires
+span-across-requires c κs = search needs
+
+because-of-requires : tie.Need-because-of-requires
+because-of-requires c κs = search needs
+
+expected-requires : tie.Need-expected-requires
+expected-requires c κs = search needs
+
+is-identifier-requires : tie.Need-is-identifier-requires
+is-identifier-requires c κs = search needs
+
+recover-requires : tie.Need-recover-requires
+recover-requires c κs = search needs
+
+record-of-requires : tie.Need-record-of-requires
+record-of-requires c κs = c .before .before .before .before .before .before .before .before .before .before .before .pre .0
+
+text-taken-requires : tie.Need-text-taken-requires
+text-taken-requires c κs = search needs
+
+returns : tie.Need-returns
+unfolding missingRead
+returns c =
+    let at-recover = c .before .before .before in
+    let at-expected = at-recover .before .before .before in
+    rw (
+      ← at-expected .before .before .span-across .ensures,
+      ← at-expected .before .because-of .ensures,
+      ← at-expected .expected .ensures,
+      ← at-recover .before .before .is-identifier .ensures,
+      ← at-recover .recover .ensures,
+      ← c .before .record-of .ensures,
+      ← c .text-taken .ensures,
+    )
+
+pub missing-spec : {M : Type 1} → statement M
+missing-spec =
+    tie.close
+    (tie.spec
+    span-across-requires
+    because-of-requires
+    expected-requires
+    is-identifier-requires
+    recover-requires
+    record-of-requires
+    text-taken-requires
+    returns)

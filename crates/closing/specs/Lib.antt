@@ -1,0 +1,4 @@
+pub mod Defaults
+pub mod Recovery
+pub mod Wholes
+pub mod OnwardLaws

@@ -1,0 +1,31 @@
+-- The steps from a state, where the step there is at hand: it, and those that follow where reading goes on. Rests on reading's StepLaws.
+use Prim.Native.Nat.{ℕ, zero, suc, _+_, _-_, _≤_, _<_}
+use mathlib.Core.Path.{_≡_, _∙_}
+use mathlib.Core.List.{List, [], _∷_}
+use native.Mathlib.Omega.{arith}
+use Rattle.frame.specs.declared.Frame.{Frame}
+use Rattle.placeholder.specs.declared.Mode.{Mode}
+use Rattle.reading.specs.Steps.{stepAt, onward, follow, stepsFrom}
+use Rattle.reading.specs.StepLaws as laws
+use Rattle.reading.specs.declared.State.{State}
+use Rattle.reading.specs.declared.Step.{Step}
+use Rattle.reading.specs.declared.Onward.{Onward}
+
+module _ (t : List ℕ) (f : Frame) (m : Mode) (s : State) {x : Step} (e : x ≡ stepAt t f m s) where
+  -- the next argument's number moves by four at most
+  pub step-next : {a : State} → onward (s .next) x ≡ Onward.To a → a .next ≤ s .next + 4
+  step-next g = laws.step-next t f m s (rw e at g)
+
+  -- the step, and what follows it
+  pub steps-some : (k : ℕ) → 0 < k → stepsFrom k t f m s ≡ x ∷ follow (stepsFrom (k - 1) t f m) (onward (s .next) x)
+  unfolding stepsFrom
+  steps-some zero h = absurd (omega arith)
+  steps-some (suc k) h = let q : suc k - 1 ≡ k = omega arith in rw (← e, q)
+
+  -- where reading goes on, those from there
+  pub steps-on : (k : ℕ) {a : State} → 0 < k → onward (s .next) x ≡ Onward.To a → stepsFrom k t f m s ≡ x ∷ stepsFrom (k - 1) t f m a
+  steps-on k h g = steps-some k h ∙ rw g
+
+  -- where it does not, nothing
+  pub steps-over : (k : ℕ) → 0 < k → onward (s .next) x ≡ Onward.Over → stepsFrom k t f m s ≡ x ∷ []
+  steps-over k h g = steps-some k h ∙ rw g
