@@ -157,7 +157,6 @@ range-four (MaybeRange.Present r) = Four.made _ _ _ _
 
 -- the ten fours of a placeholder, each at its place
 record Ten (w h p f m wd ws pd ps k ks : List ℕ) : Type 0 where
-  forty : length w ≡ 40
   head : fourAt w 0 ≡ h
   place : fourAt w 4 ≡ p
   fill : fourAt w 8 ≡ f
@@ -174,7 +173,6 @@ ten : {h p f m wd ws pd ps k ks : List ℕ} → Four h → Four p → Four f →
 ten (Four.made _ _ _ _) (Four.made _ _ _ _) (Four.made _ _ _ _) (Four.made _ _ _ _) (Four.made _ _ _ _) (Four.made _ _ _ _) (Four.made _ _ _ _)
     (Four.made _ _ _ _) (Four.made _ _ _ _) (Four.made _ _ _ _) =
     record {
-      forty = refl;
       head = refl;
       place = refl;
       fill = refl;
@@ -246,15 +244,8 @@ unfolding pieceFrom pick literalWords
 piece-back (Piece.Literal r) h = ap Piece.Literal (range-back (literalWords r) 1 2 r h refl refl)
 piece-back (Piece.Placeholder a) h = rw (first (argumentWords a) 0 (argument-ten a .head), argument-back a h)
 
--- it takes 40 numbers
-pub piece-forty : (p : Piece) → length (pieceWords p) ≡ 40
-unfolding literalWords zeros
-piece-forty (Piece.Literal r) = refl
-piece-forty (Piece.Placeholder a) = argument-ten a .forty
-
 -- the four fours of an error record
 record Sixteen (w h s q g : List ℕ) : Type 0 where
-  sixteen : length w ≡ 16
   head : fourAt w 0 ≡ h
   second : fourAt w 4 ≡ s
   quoted : fourAt w 8 ≡ q
@@ -263,7 +254,6 @@ record Sixteen (w h s q g : List ℕ) : Type 0 where
 four-fours : {h s q g : List ℕ} → Four h → Four s → Four q → Four g → Sixteen (h ++ (s ++ (q ++ g))) h s q g
 four-fours (Four.made _ _ _ _) (Four.made _ _ _ _) (Four.made _ _ _ _) (Four.made _ _ _ _) =
     record {
-      sixteen = refl;
       head = refl;
       second = refl;
       quoted = refl;
@@ -290,7 +280,3 @@ error-back e h =
       quoted = maybe-range-back w 8 (e .quoted) (h .quoted) (t .quoted) i;
       suggestion = maybe-span-back w 12 0 (e .suggestion) (h .suggestion) (t .suggestion) i;
     }
-
--- it takes 16 numbers
-pub error-sixteen : (e : ErrorRecord) → length (errorWords e) ≡ 16
-error-sixteen e = error-fours e .sixteen

@@ -22,8 +22,9 @@ use Rattle.answer.specs.declared.Answer.{Answer}
 use Rattle.answer.specs.declared.Request.{Request}
 use Rattle.answer.specs.declared.Rooms.{Rooms}
 use Rattle.words.specs.Layout.{pieceWords, errorWords}
+use Rattle.words.specs.LaidLaws.{pieceWords-length, errorWords-length}
 use Rattle.back.specs.Back.{pieceFrom, errorFrom, listFrom, Below, All}
-use Rattle.back.specs.BackLaws.{piece-back, piece-forty, error-back, error-sixteen}
+use Rattle.back.specs.BackLaws.{piece-back, error-back}
 use Rattle.back.specs.ReadingLaws.{pieces-fit, errors-fit}
 
 -- what follows for each of a list from what holds of it
@@ -90,8 +91,8 @@ reading-back t f m small end =
     record {
       each-piece = ps;
       each-error = es;
-      pieces = list-back 40 pieceFrom pieceWords piece-forty ps;
-      errors = list-back 16 errorFrom errorWords error-sixteen es;
+      pieces = list-back 40 pieceFrom pieceWords pieceWords-length ps;
+      errors = list-back 16 errorFrom errorWords errorWords-length es;
     }
 
 -- THE THEOREM

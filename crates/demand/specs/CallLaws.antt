@@ -21,6 +21,7 @@ use Rattle.reading.specs.declared.Piece.{Piece}
 use Rattle.reading.specs.declared.ErrorRecord.{ErrorRecord}
 use Rattle.reading.specs.declared.Counts.{Counts}
 use Rattle.answer.specs.Answers.{isBroken, frameFor, modeFor, countedAnswer, answerOf}
+use Rattle.reading.specs.ListLaws.{no-length, pairs-length}
 use Rattle.reading.specs.Written.{over, pairs}
 use Rattle.answer.specs.Exits.{atExit}
 use Rattle.answer.specs.declared.Request.{Request}
@@ -70,17 +71,6 @@ first-held : {A : Type 0} {number count : ℕ} {held : List A} (new old : List A
 unfolding atExit over pick
 first-held new old z c e = rw (e, c, z) (take-append-seam new (drop (length new) old))
 
--- a span takes two numbers
-length-pairs : (xs : List Span) → length (pairs xs) ≡ 2 * length xs
-unfolding pairs
-length-pairs [] = refl
-length-pairs (x ∷ xs) = let h = length-pairs xs in omega (arith, h)
-
--- a list of length 0 is empty
-no-length : {A : Type 0} (xs : List A) → length xs ≡ 0 → xs ≡ []
-no-length [] e = refl
-no-length (x ∷ xs) e = absurd (omega (arith, e))
-
 -- A DONE CALL
 module _ {t s : List ℕ} {q : Request} {ps ps′ : List Piece} {es es′ : List ErrorRecord} {ls ls′ ns ns′ : List ℕ} {r : Answer}
     (x : Read t s q ps ps′ es es′ ls ls′ ns ns′ r) (z : r .number ≡ 0) where
@@ -104,11 +94,11 @@ module _ {t s : List ℕ} {q : Request} {ps ps′ : List Piece} {es es′ : List
 
   count-places : 2 * r .counts .places ≡ length (pairs (places t (frameFor t s q) (modeFor q)))
   unfolding countsOf
-  count-places = ap (λ (c : Counts). 2 * c .places) counts-are ∙ sym (length-pairs _)
+  count-places = ap (λ (c : Counts). 2 * c .places) counts-are ∙ sym (pairs-length _)
 
   count-lines : 2 * r .counts .lines ≡ length (pairs (lines t (frameFor t s q) (modeFor q)))
   unfolding countsOf
-  count-lines = ap (λ (c : Counts). 2 * c .lines) counts-are ∙ sym (length-pairs _)
+  count-lines = ap (λ (c : Counts). 2 * c .lines) counts-are ∙ sym (pairs-length _)
 
   -- no error counted is none recorded
   pub none-counted : (r .counts .errors ≡ 0) ↔ (errors t (frameFor t s q) (modeFor q) ≡ [])

@@ -13,6 +13,7 @@ use Rattle.frame.specs.Spans.{Small}
 use Rattle.frame.specs.declared.Frame.{Frame}
 use Rattle.placeholder.specs.declared.Mode.{Mode}
 use Rattle.reading.specs.Lists.{pieces, errors, places, lines, countsOf}
+use Rattle.reading.specs.ListLaws.{no-places, no-lines}
 use Rattle.reading.specs.RoomLaws.{few-pieces, few-errors}
 use Rattle.reading.specs.declared.Counts.{Counts}
 use Rattle.answer.specs.Answers.{answered, roomFor}
@@ -58,15 +59,6 @@ unfolding over pairs
 over-none old = refl
 
 module _ (t : List ℕ) (f : Frame) (m : Mode) where
-  -- only a source literal has spans
-  no-places : f .literal ≡ false → places t f m ≡ []
-  unfolding places pick
-  no-places e = rw e
-
-  no-lines : f .literal ≡ false → lines t f m ≡ []
-  unfolding lines pick
-  no-lines e = rw e
-
   -- no list is too short where none can be
   roomy-zero : {r : Rooms} → Roomy (length t) f r → roomFor (countsOf t f m) r ≡ 0
   unfolding roomFor countsOf pick
@@ -74,8 +66,8 @@ module _ (t : List ℕ) (f : Frame) (m : Mode) where
       rw (
         le-ltb (r .pieces) (length (pieces t f m)) (omega (arith, few-pieces t f m, x .pieces)),
         le-ltb (r .errors) (length (errors t f m)) (omega (arith, few-errors t f m, x .errors)),
-        no-places (x .literal),
-        no-lines (x .literal),
+        no-places t f m (x .literal),
+        no-lines t f m (x .literal),
         le-ltb (r .places) 0 (omega arith),
         le-ltb (r .lines) 0 (omega arith),
       )
@@ -90,7 +82,7 @@ module _ (t : List ℕ) (f : Frame) (m : Mode) where
         Filled t f m ps ps′ es es′ (answered 0 0 (record { pieces = r .pieces; errors = r .errors; places = 0; lines = 0 }))
     unfolding countsOf
     filled-is e x =
-        record { answer = rw (x .pieces, x .errors, no-places e, no-lines e); pieces = x .wrote-pieces; errors = x .wrote-errors }
+        record { answer = rw (x .pieces, x .errors, no-places t f m e, no-lines t f m e); pieces = x .wrote-pieces; errors = x .wrote-errors }
 
   module _ (ps es ls ns : List ℕ) where
     -- lists of numbers with room for so many records
@@ -151,4 +143,4 @@ module _ (t : List ℕ) (f : Frame) (m : Mode) where
         ReadBy t f m ps ps′ es es′ ls ls ns ns a
     roomy-by {r = r} q x y =
         rw (y .answer)
-        (done-by (sym (roomy-zero x)) refl q refl (y .pieces) (y .errors) (rw (no-places (x .literal)) (over-none ls)) (rw (no-lines (x .literal)) (over-none ns)))
+        (done-by (sym (roomy-zero x)) refl q refl (y .pieces) (y .errors) (rw (no-places t f m (x .literal)) (over-none ls)) (rw (no-lines t f m (x .literal)) (over-none ns)))

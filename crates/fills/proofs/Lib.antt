@@ -2,5 +2,6 @@
 pub mod Overlays
 pub mod Noting
 pub mod Telling
+pub mod Wrongs
 pub mod Stepping
 pub mod Running

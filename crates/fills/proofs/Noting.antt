@@ -1,6 +1,6 @@
 -- Error records noted one after the other: each fault's part, the room they take, and what the list holds when all are noted.
--- Rests on Turning, Overlays and words' LaidLaws.
-use Prim.Native.Nat.{ℕ, suc, _+_, _-_, _*_, _≤_, _<_}
+-- Rests on Turning, Overlays, words' LaidLaws and reading's FaultLaws.
+use Prim.Native.Nat.{ℕ, suc, _+_, _-_, _*_, _≤_}
 use mathlib.Core.Path.{_≡_, refl, sym, ap, _∙_}
 use mathlib.Core.Bool.{Bool, true, false}
 use mathlib.Core.List.{List, [], _∷_, _++_, append-assoc, append-nil}
@@ -12,17 +12,16 @@ use Rattle.unicode.specs.Choice.{pick}
 use Rattle.frame.specs.declared.Frame.{Frame}
 use Rattle.scan.specs.declared.Fault.{Fault}
 use Rattle.closing.specs.Recovery.{isClean}
+use Rattle.reading.specs.FaultLaws.{wrong-++}
 use Rattle.reading.specs.Faults.{wrong}
-use Rattle.reading.specs.Lists.{gather, frontOnly, backOnly, reversed, listed, records}
-use Rattle.reading.specs.ListLaws.{gather-append}
+use Rattle.reading.specs.Lists.{gather, frontOnly, backOnly, reversed, records}
 use Rattle.reading.specs.Records.{isFront, recordOf}
-use Rattle.reading.specs.declared.ErrorRecord.{ErrorRecord}
 use Rattle.words.specs.Laid.{laid}
 use Rattle.words.specs.LaidLaws.{laid-length, laid-on, errorWords-length}
 use Rattle.words.specs.Layout.{errorWords}
-use Rattle.fills.specs.Turning.{Noted, notedBy, atBack, atFront, counted, note, notes, fronts, backs, Room, Notes}
+use Rattle.fills.specs.Turning.{Noted, notedBy, atBack, atFront, counted, note, notes, fronts, backs, Room, Notes, BackRoom, BackNotes}
 use Rattle.fills.specs.declared.turns.Marks.{Marks}
-use Rattle.fills.proofs.Overlays.{laid-none, laid-before, gather-length}
+use Rattle.fills.proofs.Overlays.{laid-none, laid-before}
 
 -- THE WRONG ONES of some faults and others
 module _ (x : Fault) (xs : List Fault) where
@@ -203,15 +202,6 @@ module _ (t : List ℕ) (f : Frame) where
   room-after s (x ∷ xs) ys r = room-after (note t f s x) xs ys (room-next x (xs ++ ys) r)
 
 -- THE FIRST OF THEM
-pub wrong-append : (xs ys : List Fault) → wrong (xs ++ ys) ≡ wrong xs ++ wrong ys
-unfolding wrong
-wrong-append [] ys = refl
-wrong-append (x ∷ xs) ys = go (isClean x) refl (wrong-append xs ys)
-  where
-    go : (c : Bool) → isClean x ≡ c → wrong (xs ++ ys) ≡ wrong xs ++ wrong ys → wrong (x ∷ (xs ++ ys)) ≡ wrong (x ∷ xs) ++ wrong ys
-    go true p e = rw (wrong-clean x (xs ++ ys) p, wrong-clean x xs p) e
-    go false p e = rw (wrong-more x (xs ++ ys) p, wrong-more x xs p) (ap (λ (l : List Fault). x ∷ l) e)
-
 front-append : (xs ys : List Fault) → frontOnly (xs ++ ys) ≡ frontOnly xs ++ frontOnly ys
 unfolding frontOnly
 front-append [] ys = refl
@@ -230,16 +220,46 @@ back-append (x ∷ xs) ys = go (isFront x) refl (back-append xs ys)
     go true p e = rw (back-same x (xs ++ ys) p, back-same x xs p) e
     go false p e = rw (back-more x (xs ++ ys) p, back-more x xs p) (ap (λ (l : List Fault). x ∷ l) e)
 
--- room for all is room for the first
+-- room for all is room for the first: for those of the back, and for any
+pub back-before : (high : ℕ) (es : List ℕ) (xs ys : List Fault) → BackRoom high es (xs ++ ys) → BackRoom high es xs
+back-before high es xs ys r =
+    let b = ap length (ap backOnly (wrong-++ xs ys) ∙ back-append (wrong xs) (wrong ys)) in
+    omega (arith, r, b, length-append (backs xs) (backs ys))
+
 pub room-before : {s : Noted} (xs ys : List Fault) → Room s (xs ++ ys) → Room s xs
-room-before xs ys r =
-    let a = ap length (ap frontOnly (wrong-append xs ys) ∙ front-append (wrong xs) (wrong ys)) in
-    let b = ap length (ap backOnly (wrong-append xs ys) ∙ back-append (wrong xs) (wrong ys)) in
+room-before {s} xs ys r =
+    let a = ap length (ap frontOnly (wrong-++ xs ys) ∙ front-append (wrong xs) (wrong ys)) in
     record {
-      back = omega (arith, r .back, b, length-append (backs xs) (backs ys));
+      back = back-before (s .high) (s .list) xs ys (r .back);
       front = r .front;
       count = omega (arith, r .count, a, length-append (fronts xs) (fronts ys));
     }
+
+-- CLEAN ONES take no room and note nothing: where the same are wrong in two lists, room for one is room for the other
+module _ (xs ys : List Fault) (e : wrong xs ≡ wrong ys) where
+  pub same-room : {s : Noted} → Room s xs → Room s ys
+  same-room r = record { back = rw e at (r .back); front = r .front; count = rw e at (r .count) }
+
+  pub same-backs : (high : ℕ) (es : List ℕ) → BackRoom high es xs → BackRoom high es ys
+  same-backs high es r = rw e at r
+
+module _ (t : List ℕ) (f : Frame) where
+  notes-wrong : (s : Noted) (xs : List Fault) → notes t f s xs ≡ notes t f s (wrong xs)
+  unfolding notes wrong
+  notes-wrong s [] = refl
+  notes-wrong s (x ∷ xs) = go (isClean x) refl (λ (o : Noted). notes-wrong o xs)
+    where
+      go : (b : Bool) → isClean x ≡ b → ((o : Noted) → notes t f o xs ≡ notes t f o (wrong xs)) → notes t f (note t f s x) xs ≡ notes t f s (wrong (x ∷ xs))
+      go true p i = rw (note-clean t f s x p, wrong-clean x xs p) (i s)
+      go false p i = rw (wrong-more x xs p) (i (note t f s x))
+
+  -- and they note the same
+  module _ (xs ys : List Fault) (e : wrong xs ≡ wrong ys) where
+    pub same-notes : (s : Noted) → notes t f s xs ≡ notes t f s ys
+    same-notes s = notes-wrong s xs ∙ ap (notes t f s) e ∙ sym (notes-wrong s ys)
+
+    pub same-backs-notes : {high r : ℕ} {es es′ : List ℕ} → BackNotes t f high es xs r es′ → BackNotes t f high es ys r es′
+    same-backs-notes n = record { noted = λ low fronts. n .noted low fronts ∙ same-notes _ }
 
 -- SOME ARE LEFT: with them noted too the list and its marks are as they are to be, and there is room for them
 pub record Left (t : List ℕ) (f : Frame) (s : Noted) (all : List Fault) (r : Noted) (rest : List Fault) : Type 0 where
@@ -262,10 +282,6 @@ module _ (t : List ℕ) (f : Frame) {s : Noted} {all : List Fault} where
           same = rw e (notes-length t f r xs (room-before xs ys (l .room)) ∙ l .same);
         }
 
-    -- the last of them are noted
-    pub left-last : {xs : List Fault} → Left t f s all r xs → r′ ≡ notes t f r xs → r′ ≡ notes t f s all
-    left-last l e = e ∙ l .gives
-
   -- there is room for the first of them
   pub left-room : {r : Noted} (xs ys : List Fault) → Left t f s all r (xs ++ ys) → Room r xs
   left-room xs ys l = room-before xs ys (l .room)
@@ -282,22 +298,21 @@ module _ (t : List ℕ) (f : Frame) (m : Marks) (es : List ℕ) (x : Fault) wher
     pub room-front : isFront x ≡ true → Room (notedBy m es) (x ∷ []) → m .fronts + 1 ≤ length es
     room-front q r = omega (arith, r .count, front-fronts x [] p q)
 
-    module _ {e : ErrorRecord} (w : e ≡ recordOf t f x) where
-      pub put-back : isFront x ≡ false → {es′ : List ℕ} → es′ ≡ laid es (16 * m .high) (errorWords e) →
-          Notes t f m es (x ∷ []) (record { pieces = m .pieces; low = m .low; high = m .high + 1; fronts = m .fronts }) es′
-      put-back q o =
-          record {
-            pieces = refl;
-            noted = rw (o, w) (sym (notes-one t f (notedBy m es) x ∙ note-back t f (notedBy m es) x p q));
-          }
+    pub put-back : isFront x ≡ false → {es′ : List ℕ} → es′ ≡ laid es (16 * m .high) (errorWords (recordOf t f x)) →
+        Notes t f m es (x ∷ []) (record { pieces = m .pieces; low = m .low; high = m .high + 1; fronts = m .fronts }) es′
+    put-back q o =
+        record {
+          pieces = refl;
+          noted = rw o (sym (notes-one t f (notedBy m es) x ∙ note-back t f (notedBy m es) x p q));
+        }
 
-      pub put-front : isFront x ≡ true → (m .low ≡ 0 → ⊥) → {es′ : List ℕ} → es′ ≡ laid es (16 * (m .low - 1)) (errorWords e) →
-          Notes t f m es (x ∷ []) (record { pieces = m .pieces; low = m .low - 1; high = m .high; fronts = m .fronts + 1 }) es′
-      put-front q n o =
-          record {
-            pieces = refl;
-            noted = rw (o, w) (sym (notes-one t f (notedBy m es) x ∙ note-front t f (notedBy m es) x p q (ne-eqb (m .low) 0 n)));
-          }
+    pub put-front : isFront x ≡ true → (m .low ≡ 0 → ⊥) → {es′ : List ℕ} → es′ ≡ laid es (16 * (m .low - 1)) (errorWords (recordOf t f x)) →
+        Notes t f m es (x ∷ []) (record { pieces = m .pieces; low = m .low - 1; high = m .high; fronts = m .fronts + 1 }) es′
+    put-front q n o =
+        record {
+          pieces = refl;
+          noted = rw o (sym (notes-one t f (notedBy m es) x ∙ note-front t f (notedBy m es) x p q (ne-eqb (m .low) 0 n)));
+        }
 
     pub put-apart : isFront x ≡ true → m .low ≡ 0 → Notes t f m es (x ∷ []) (record { pieces = m .pieces; low = 0; high = m .high; fronts = m .fronts + 1 }) es
     put-apart q n =
@@ -305,6 +320,68 @@ module _ (t : List ℕ) (f : Frame) (m : Marks) (es : List ℕ) (x : Fault) wher
           pieces = refl;
           noted = sym (notes-one t f (notedBy m es) x ∙ note-apart t f (notedBy m es) x p q (eq-eqb (m .low) 0 n));
         }
+
+-- SOME AND THEN OTHERS, as they are written
+module _ (t : List ℕ) (f : Frame) {m m₁ : Marks} {es es₁ : List ℕ} (xs : List Fault) {ys : List Fault} (n₁ : Notes t f m es xs m₁ es₁) where
+  pub notes-then : {m₂ : Marks} {es₂ : List ℕ} → Notes t f m₁ es₁ ys m₂ es₂ → Notes t f m es (xs ++ ys) m₂ es₂
+  notes-then n₂ =
+      record {
+        pieces = n₂ .pieces ∙ n₁ .pieces;
+        noted = n₂ .noted ∙ ap (λ (s : Noted). notes t f s ys) (n₁ .noted) ∙ sym (notes-append t f (notedBy m es) xs ys);
+      }
+
+  -- for which there is room
+  pub room-then : Room (notedBy m es) (xs ++ ys) → Room (notedBy m₁ es₁) ys
+  room-then r = rw (n₁ .noted) (room-after t f (notedBy m es) xs ys r)
+
+-- SOME OF THE BACK, wherever those of the front begin
+abbrev at : ℕ → List ℕ → ℕ → ℕ → Noted
+at high es low fronts = record { low = low; high = high; fronts = fronts; list = es }
+
+module _ (t : List ℕ) (f : Frame) (high : ℕ) (es : List ℕ) (x : Fault) where
+  pub back-clean : isClean x ≡ true → BackNotes t f high es (x ∷ []) high es
+  back-clean p =
+      record { noted = λ low fronts. sym (notes-one t f (at high es low fronts) x ∙ note-clean t f (at high es low fronts) x p) }
+
+  -- one that is wrong goes after those that are written
+  module _ (p : isClean x ≡ false) (q : isFront x ≡ false) where
+    pub back-one : {es′ : List ℕ} → es′ ≡ laid es (16 * high) (errorWords (recordOf t f x)) → BackNotes t f high es (x ∷ []) (high + 1) es′
+    back-one o =
+        record {
+          noted = λ low fronts. rw o (sym (notes-one t f (at high es low fronts) x ∙ note-back t f (at high es low fronts) x p q));
+        }
+
+    pub back-room : BackRoom high es (x ∷ []) → 16 * high + 16 ≤ length es
+    back-room r = omega (arith, r, back-backs x [] p q)
+
+module _ (t : List ℕ) (f : Frame) {high high₁ : ℕ} {es es₁ : List ℕ} where
+  -- some, and then others
+  pub backs-then : (xs ys : List Fault) → BackNotes t f high es xs high₁ es₁ → {high₂ : ℕ} {es₂ : List ℕ} → BackNotes t f high₁ es₁ ys high₂ es₂ →
+      BackNotes t f high es (xs ++ ys) high₂ es₂
+  backs-then xs ys n₁ n₂ =
+      record {
+        noted =
+            λ low fronts.
+            n₂ .noted low fronts
+            ∙ ap (λ (s : Noted). notes t f s ys) (n₁ .noted low fronts)
+            ∙ sym (notes-append t f (at high es low fronts) xs ys);
+      }
+
+  -- after one there is room for the others
+  pub back-after : (x : Fault) (xs : List Fault) → isFront x ≡ false → BackRoom high es (x ∷ xs) → BackNotes t f high es (x ∷ []) high₁ es₁ →
+      BackRoom high₁ es₁ xs
+  back-after x xs q r n = go (isClean x) refl (n .noted 0 0 ∙ notes-one t f (at high es 0 0) x)
+    where
+      go : (b : Bool) → isClean x ≡ b → at high₁ es₁ 0 0 ≡ note t f (at high es 0 0) x → BackRoom high₁ es₁ xs
+      go true p e =
+          let k = e ∙ note-clean t f (at high es 0 0) x p in
+          omega (arith, r, clean-backs x xs p, ap (λ (o : Noted). o .high) k, ap (λ (o : Noted). length (o .list)) k)
+      go false p e =
+          let k = e ∙ note-back t f (at high es 0 0) x p q in
+          let w = errorWords-length (recordOf t f x) in
+          let b = back-backs x xs p q in
+          let same = laid-length es (16 * high) (errorWords (recordOf t f x)) (omega (arith, r)) in
+          omega (arith, r, same, ap (λ (o : Noted). o .high) k, ap (λ (o : Noted). length (o .list)) k)
 
 -- ALL OF THEM: the numbers of some faults' records
 unfoldable pub inWords : List ℕ → Frame → List Fault → List ℕ

@@ -1,7 +1,7 @@
 -- Numbers laid over a list: none, before others, over the first, over others that are as long; and the numbers of many records.
--- Rests on words' Laid and answer's Exits.
+-- Rests on words' Laid and reading's Written.
 use Prim.Native.Nat.{ℕ, _+_, _-_, _*_, _≤_}
-use mathlib.Core.Path.{_≡_, refl, sym, ap, _∙_}
+use mathlib.Core.Path.{_≡_, sym, ap, _∙_}
 use mathlib.Core.List.{List, [], _∷_, _++_, append-assoc}
 use native.Mathlib.Nat.{add-zero, zero-add}
 use native.Mathlib.Omega.{arith}

@@ -1,6 +1,6 @@
 -- A whole text written step by step: some pieces and records are written, the steps left give the rest. Then what the two runs of `fill` leave.
--- Rests on Turning, Filling, Noting and Overlays, and on reading's StepLaws and ListLaws.
-use Prim.Native.Nat.{ℕ, zero, suc, _+_, _-_, _*_, _≤_, _<_}
+-- Rests on Turning, Filling, Noting and Overlays, and on reading's WalkLaws, FaultLaws and ListLaws.
+use Prim.Native.Nat.{ℕ, suc, _+_, _-_, _*_, _≤_, _<_}
 use mathlib.Core.Path.{_≡_, refl, sym, ap, _∙_}
 use mathlib.Core.Bool.{Bool, true, false}
 use mathlib.Core.List.{List, [], _∷_, _++_}
@@ -10,12 +10,14 @@ use Rattle.frame.specs.Spans.{Small}
 use Rattle.frame.specs.declared.Frame.{Frame}
 use Rattle.scan.specs.declared.Fault.{Fault}
 use Rattle.placeholder.specs.declared.Mode.{Mode}
+use Rattle.reading.specs.FaultLaws.{wrong-++}
 use Rattle.reading.specs.Faults.{stepSlots, wrong, faultsOf}
 use Rattle.reading.specs.Lists.{gather, piecesOf, pieces, frontOnly, backOnly, reversed, listed, records, faults, errors}
 use Rattle.reading.specs.ListLaws.{gather-append, gather-more, errors-length}
 use Rattle.reading.specs.Records.{isFront}
 use Rattle.reading.specs.Steps.{stepAt, onward, follow, stepsFrom, start, reading}
-use Rattle.reading.specs.StepLaws.{steps-more, steps-over, steps-none, step-next}
+use Rattle.reading.specs.StepLaws.{steps-none}
+use Rattle.reading.specs.WalkLaws.{step-next, steps-some, steps-on, steps-over}
 use Rattle.reading.specs.declared.Piece.{Piece}
 use Rattle.reading.specs.declared.State.{State}
 use Rattle.reading.specs.declared.Step.{Step}
@@ -28,7 +30,7 @@ use Rattle.fills.specs.Turning.{Noted, notedBy, notes, fronts, backs, St
 use Rattle.fills.specs.declared.turns.Marks.{Marks}
 use Rattle.fills.specs.declared.turns.Turn.{Turn}
 use Rattle.fills.proofs.Overlays.{laid-none, laid-first, over-again, gather-length}
-use Rattle.fills.proofs.Noting.{front-more, front-same, back-more, back-same, wrong-append, Left, left-first, left-on, left-room, inWords, words-more, words-none, words-length, Counted, notes-counted, notes-placed}
+use Rattle.fills.proofs.Noting.{front-more, front-same, back-more, back-same, Left, left-first, left-on, left-room, inWords, words-more, words-none, words-length, Counted, notes-counted, notes-placed}
 
 -- HOW MANY: each of some faults goes to the front or to the back
 parts-length : (xs : List Fault) → length (frontOnly xs) + length (backOnly xs) ≡ length xs
@@ -45,7 +47,7 @@ parts-length (x ∷ xs) = go (isFront x) refl (parts-length xs)
 wrong-gather : (xs : List Step) → wrong (gather stepSlots xs) ≡ gather faultsOf xs
 unfolding gather faultsOf wrong
 wrong-gather [] = refl
-wrong-gather (x ∷ xs) = wrong-append (stepSlots x) (gather stepSlots xs) ∙ ap (λ (l : List Fault). wrong (stepSlots x) ++ l) (wrong-gather xs)
+wrong-gather (x ∷ xs) = wrong-++ (stepSlots x) (gather stepSlots xs) ∙ ap (λ (l : List Fault). wrong (stepSlots x) ++ l) (wrong-gather xs)
 
 module _ (t : List ℕ) (f : Frame) (m : Mode) where
   wrong-slots : wrong (slots t f m) ≡ faults t f m
@@ -112,13 +114,6 @@ pub record Going (t : List ℕ) (f : Frame) (m : Mode) (k : ℕ) (ps₀ es₀ ps
   pub next : s .next + 4 * left ≤ 0x40000
 
 module _ (t : List ℕ) (f : Frame) (m : Mode) where
-  -- the step where reading stands, and what follows it
-  steps-some : (k : ℕ) (s : State) → 0 < k →
-      stepsFrom k t f m s ≡ stepAt t f m s ∷ follow (stepsFrom (k - 1) t f m) (onward (s .next) (stepAt t f m s))
-  unfolding stepsFrom
-  steps-some zero s h = absurd (omega arith)
-  steps-some (suc k) s h = let q : suc k - 1 ≡ k = omega arith in rw q
-
   module _ (k : ℕ) (ps₀ es₀ : List ℕ) (room : 40 * length (pieces t f m) ≤ length ps₀) where
     -- at the start
     pub going-first : Small t f → 16 * length (errors t f m) ≤ length es₀ → k ≤ length (fronts (slots t f m)) →
@@ -153,7 +148,7 @@ module _ (t : List ℕ) (f : Frame) (m : Mode) where
       going-room h =
           let x = stepAt t f m s in
           let more = follow (stepsFrom (left - 1) t f m) (onward (s .next) x) in
-          let e = steps-some left s h in
+          let e = steps-some t f m s refl left h in
           record {
             pieces =
                 laying-room (g .pieces) (piecesOf x) (gather piecesOf more) (ap (gather piecesOf) e ∙ gather-more piecesOf x more) room;
@@ -177,18 +172,18 @@ module _ (t : List ℕ) (f : Frame) (m : Mode) where
         going-on y =
             let to = d .on y in
             let more = stepsFrom (left - 1) t f m (o .state) in
-            let e = steps-more t f m left s h to in
+            let e = steps-on t f m s refl left h to in
             record {
               pieces = pieces-on (d .stepped) more e;
               errors = errors-on (d .stepped) more e;
-              next = omega (arith, g .next, step-next t f m s to);
+              next = omega (arith, g .next, step-next t f m s refl to);
             }
 
         -- it is over
         pub going-over : o .more ≡ false → Ran t f m k ps₀ es₀ (o .marks) ps′ es′
         unfolding gather
         going-over n =
-            let e = steps-over t f m left s h (d .over n) in
+            let e = steps-over t f m s refl left h (d .over n) in
             ran (pieces-on (d .stepped) [] e) (errors-on (d .stepped) [] e)
 
 -- TWO RUNS

@@ -1,8 +1,8 @@
--- A step's piece and its records, by what the step is; and what the step is, from the bytes there. Rests on Turning, Noting and quick's Tellings.
+-- A step's piece and its records, by what the step is; and what the step is, from the bytes there. Rests on Turning, Noting, Wrongs and quick's Tellings.
 use Prim.Native.Nat.{ℕ, _+_, _*_, _≤_, _<_}
 use mathlib.Core.Path.{_≡_, refl, sym, ap, _∙_}
 use mathlib.Core.Bool.{Bool, true, false, true≢false}
-use mathlib.Core.List.{List, [], _∷_, _++_, append-nil}
+use mathlib.Core.List.{List, [], _∷_, _++_}
 use native.Mathlib.Omega.{arith}
 use borrow.Author.Tests.{ltb-true, ltb-false, lt-ltb, le-ltb, eq-eqb, ne-eqb}
 use lib.Dec.{ltb}
@@ -12,14 +12,14 @@ use Rattle.frame.specs.Places.{place, rangeOf}
 use Rattle.frame.specs.declared.Frame.{Frame}
 use Rattle.frame.specs.declared.TextPlace.{TextPlace}
 use Rattle.frame.specs.declared.TextRange.{TextRange}
-use Rattle.scan.specs.Characters.{isAt, consumed, textEnd}
+use Rattle.scan.specs.Characters.{consumed, textEnd}
 use Rattle.scan.specs.ScanLaws.{is-at-byte, is-at-end, consumed-is, consumed-some}
 use Rattle.scan.specs.declared.Fault.{Fault}
 use Rattle.closing.specs.Wholes.{placeholderRead}
 use Rattle.placeholder.specs.declared.Mode.{Mode}
 use Rattle.closing.specs.declared.whole.PlaceholderRead.{PlaceholderRead}
 use Rattle.reading.specs.Faults.{argumentSlots, closingSlots, stepSlots}
-use Rattle.reading.specs.Lists.{gather, piecesOf}
+use Rattle.reading.specs.Lists.{gather}
 use Rattle.reading.specs.ListLaws.{gather-one}
 use Rattle.reading.specs.Steps.{afterOpen, stepAt, stateOf, onward}
 use Rattle.reading.specs.declared.Onward.{Onward}
@@ -30,11 +30,11 @@ use Rattle.quick.specs.Tellings.{argumentOf, nextOf, toldRead, Tells}
 use Rattle.quick.specs.declared.Told.{Told}
 use Rattle.words.specs.Laid.{laid}
 use Rattle.words.specs.Layout.{literalWords, argumentWords, pieceWords}
-use Rattle.fills.specs.Turning.{Sound, notedBy, note, notes, Room, Notes, oneMore, StepRoom, Stepped, Turned}
+use Rattle.fills.specs.Turning.{Sound, toldSlots, notedBy, notes, Room, Notes, oneMore, StepRoom, Stepped, Turned}
 use Rattle.fills.specs.declared.turns.Marks.{Marks}
-use Rattle.fills.specs.declared.turns.Turn.{Turn}
 use Rattle.fills.proofs.Overlays.{laid-none}
-use Rattle.fills.proofs.Noting.{left-first, left-on, left-room, left-last}
+use Rattle.fills.proofs.Noting.{room-before, same-notes, same-room, notes-then, room-then}
+use Rattle.fills.proofs.Wrongs.{told-wrong}
 
 module _ (t : List ℕ) (f : Frame) {m : Marks} {ps es : List ℕ} where
   -- THE END gives nothing
@@ -74,52 +74,49 @@ module _ (t : List ℕ) (f : Frame) {m : Marks} {ps es : List ℕ} where
     module _ {o : Marks} (e : o ≡ oneMore m) (r : StepRoom (Step.Placeholder p) m ps es) where
       pub faults-room : Room (notedBy o es) (argumentSlots (p .faults))
       unfolding stepSlots
-      faults-room = rw e (left-room t f (argumentSlots (p .faults)) (closingSlots (p .closing)) (left-first t f (r .errors)))
+      faults-room = rw e (room-before (argumentSlots (p .faults)) (closingSlots (p .closing)) (r .errors))
 
       module _ {o₁ : Marks} {es₁ : List ℕ} (n₁ : Notes t f o es (argumentSlots (p .faults)) o₁ es₁) where
         pub closing-room : Room (notedBy o₁ es₁) (closingSlots (p .closing))
         unfolding stepSlots
-        closing-room =
-            let first = n₁ .noted ∙ ap (λ (o : Marks). notes t f (notedBy o es) (argumentSlots (p .faults))) e in
-            left-on t f (argumentSlots (p .faults)) (left-first t f (r .errors)) first .room
+        closing-room = room-then t f (argumentSlots (p .faults)) n₁ (rw e (r .errors))
 
         pub stepped-placeholder : {o₂ : Marks} {ps′ es₂ : List ℕ} → ps′ ≡ laid ps (40 * m .pieces) (argumentWords (p .argument)) →
             Notes t f o₁ es₁ (closingSlots (p .closing)) o₂ es₂ → Stepped t f (Step.Placeholder p) m ps es o₂ ps′ es₂
         unfolding stepSlots
         stepped-placeholder w n₂ =
-            let first = n₁ .noted ∙ ap (λ (o : Marks). notes t f (notedBy o es) (argumentSlots (p .faults))) e in
+            let k = notes-then t f (argumentSlots (p .faults)) n₁ n₂ in
             record {
-              pieces = n₂ .pieces ∙ n₁ .pieces ∙ ap (λ (o : Marks). o .pieces) e;
+              pieces = k .pieces ∙ ap (λ (o : Marks). o .pieces) e;
               wrote = w ∙ ap (laid ps (40 * m .pieces)) (sym (gather-one pieceWords (Piece.Placeholder (p .argument))));
-              noted = left-last t f (left-on t f (argumentSlots (p .faults)) (left-first t f (r .errors)) first) (n₂ .noted);
+              noted = k .noted ∙ ap (λ (o : Marks). notes t f (notedBy o es) (argumentSlots (p .faults) ++ closingSlots (p .closing))) e;
             }
 
-  -- one that is told gives a piece and no record
-  pub stepped-told : (brace n : ℕ) (x : Told) {r : Marks} {ps′ : List ℕ} → r ≡ oneMore m → ps′ ≡ laid ps (40 * m .pieces) (argumentWords (argumentOf t f brace n x)) →
-      Stepped t f (Step.Placeholder (toldRead t f brace n x)) m ps es r ps′ es
-  unfolding stepSlots argumentSlots closingSlots toldRead notes note pick
-  stepped-told brace n x e w =
-      record {
-        pieces = ap (λ (o : Marks). o .pieces) e;
-        wrote = w ∙ ap (laid ps (40 * m .pieces)) (sym (gather-one pieceWords (Piece.Placeholder (argumentOf t f brace n x))));
-        noted = ap (λ (o : Marks). notedBy o es) e;
-      }
+  -- one that is told gives a piece and the records of what is told to be wrong
+  module _ (brace n : ℕ) (x : Told) where
+    pub told-room : StepRoom (Step.Placeholder (toldRead t f brace n x)) m ps es → Room (notedBy (oneMore m) es) (toldSlots t f brace x)
+    told-room r = same-room (stepSlots (Step.Placeholder (toldRead t f brace n x))) (toldSlots t f brace x) (told-wrong t f brace n x) (r .errors)
+
+    pub stepped-told : {r : Marks} {ps′ es′ : List ℕ} → ps′ ≡ laid ps (40 * m .pieces) (argumentWords (argumentOf t f brace n x)) →
+        Notes t f (oneMore m) es (toldSlots t f brace x) r es′ → Stepped t f (Step.Placeholder (toldRead t f brace n x)) m ps es r ps′ es′
+    unfolding toldRead
+    stepped-told w k =
+        let xs = stepSlots (Step.Placeholder (toldRead t f brace n x)) in
+        record {
+          pieces = k .pieces;
+          wrote = w ∙ ap (laid ps (40 * m .pieces)) (sym (gather-one pieceWords (Piece.Placeholder (argumentOf t f brace n x))));
+          noted = k .noted ∙ sym (same-notes t f xs (toldSlots t f brace x) (told-wrong t f brace n x) (notedBy m es));
+        }
 
 -- and reading goes on after it
-pub told-on : (t : List ℕ) (f : Frame) (brace n : ℕ) (x : Told) {k : ℕ} → k ≡ nextOf n x → onward n (Step.Placeholder (toldRead t f brace n x)) ≡ Onward.To (stateOf (place (x .close + 1)) k)
+pub told-on : (t : List ℕ) (f : Frame) (brace n : ℕ) (x : Told) {k : ℕ} → k ≡ nextOf n x →
+    onward n (Step.Placeholder (toldRead t f brace n x)) ≡ Onward.To (stateOf (place (x .on)) k)
 unfolding toldRead
-told-on t f brace n x e = ap (λ (k : ℕ). Onward.To (stateOf (place (x .close + 1)) k)) (sym e)
+told-on t f brace n x e = ap (λ (k : ℕ). Onward.To (stateOf (place (x .on)) k)) (sym e)
 
 -- what is told, where it is
 pub told-sound : (t : List ℕ) (at : ℕ) (x : Told) → Tells t at x → x .ok ≡ true → Sound t x
-told-sound t at x s y =
-    record {
-      placed = s .placed y;
-      wide = s .wide y;
-      precise = s .precise y;
-      reached = s .reached y;
-      closed = s .closed y;
-    }
+told-sound t at x s y = record { placed = s .placed y; wide = s .wide y; precise = s .precise y; reached = s .reached y }
 
 -- WHAT THE STEP IS
 module _ (t : List ℕ) (f : Frame) (m : Mode) (s : State) where

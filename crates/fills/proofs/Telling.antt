@@ -1,8 +1,8 @@
 -- The numbers of what the quick lane tells, part by part: each part's four numbers are the layout's. Rests on Turning, quick's Tellings and words' Layout.
-use Prim.Native.Nat.{ℕ, _+_, _*_, _≤_, _<_}
+use Prim.Native.Nat.{ℕ, _+_, _≤_}
 use mathlib.Core.Path.{_≡_, refl, sym, ap, _∙_}
 use mathlib.Core.Bool.{Bool, true, false}
-use mathlib.Core.List.{List, [], _∷_, _++_, append-assoc}
+use mathlib.Core.List.{List, _++_, append-assoc}
 use native.Mathlib.Omega.{arith}
 use borrow.Author.Tests.{eqb-true, eqb-false, eq-eqb, ne-eqb}
 use lib.Dec.{eqb}
@@ -19,7 +19,7 @@ use Rattle.placeholder.specs.declared.MaybeSpan.{MaybeSpan}
 use Rattle.placeholder.specs.declared.Place.{Place}
 use Rattle.placeholder.specs.declared.Spec.{Spec}
 use Rattle.placeholder.specs.declared.position.Found.{Found}
-use Rattle.quick.specs.Tellings.{foundOf, countOf, countSpan, fillOf, kindSpan, afterStar, specOf, argumentOf, nextOf}
+use Rattle.quick.specs.Tellings.{foundOf, countOf, widthOf, countSpan, fillOf, kindSpan, afterStar, specOf, argumentOf, nextOf}
 use Rattle.quick.specs.declared.Kind.{Kind}
 use Rattle.quick.specs.declared.Part.{Part}
 use Rattle.quick.specs.declared.SpecTold.{SpecTold}
@@ -28,7 +28,7 @@ use Rattle.words.specs.Laid.{laid}
 use Rattle.words.specs.LaidLaws.{laid-on, fillWords-length, placeWords-length, countWords-length, specWords-length, zeros-length}
 use Rattle.words.specs.Layout.{lowOf, four, none, bitOf, alignOf, signOf, placeTag, placeWords, fillWords, spanWords, countData, nameSpanEnd, countWords, headWords, specWords, argumentWords, zeros}
 use Rattle.words.proofs.Laying.{laying-first, laying-on, laying-last}
-use Rattle.fills.specs.Turning.{placeOf, toldHead}
+use Rattle.fills.specs.Turning.{placeOf, toldHead, nameWords}
 
 -- NUMBERS OF ARGUMENTS: a star takes one at most
 pub star-few : (n : ℕ) (p : Part) → afterStar n p ≤ n + 1
@@ -98,14 +98,14 @@ place-tag at p n h = go (eqb (p .kind) 0) refl (eqb (p .kind) 1) refl
         ap placeTag (place-word at p n some more) ∙ two
 
 module _ (t : List ℕ) (f : Frame) (brace : ℕ) (x : Told) (n : ℕ) (placed : x .place .kind ≤ 2) (l : List ℕ) (k : ℕ) (room : k + 8 ≤ length l) where
-  pub head-laid : {l₁ l₂ : List ℕ} → l₁ ≡ laid l k (four 1 (lowOf brace) (lowOf (x .close + 1)) (x .place .kind)) →
+  pub head-laid : {l₁ l₂ : List ℕ} → l₁ ≡ laid l k (four 1 (lowOf brace) (lowOf (x .on)) (x .place .kind)) →
       l₂ ≡ laid l₁ (k + 4) (placeWords (placeOf (brace + 1) (x .place) n) (spanBetween t f (place (brace + 1)) (place (x .to)))) →
       l₂ ≡ laid l k (toldHead t f brace x n)
   unfolding toldHead
   head-laid p q =
       let w = placeWords (placeOf (brace + 1) (x .place) n) (spanBetween t f (place (brace + 1)) (place (x .to))) in
       rw (place-tag (brace + 1) (x .place) n placed)
-      (two-laid l k (four 1 (lowOf brace) (lowOf (x .close + 1)) (x .place .kind)) w (k + 4) (omega arith)
+      (two-laid l k (four 1 (lowOf brace) (lowOf (x .on)) (x .place .kind)) w (k + 4) (omega arith)
       (omega (arith, placeWords-length (placeOf (brace + 1) (x .place) n) (spanBetween t f (place (brace + 1)) (place (x .to))))) p q)
 
 -- A COUNT: nothing, or its kind, its number and its span
@@ -170,6 +170,27 @@ module _ (t : List ℕ) (f : Frame) (from n : ℕ) (p : Part) where
       rw (span-some e, ← d .0, ← d .1)
       (two-laid l k (four (p .kind) (pick (eqb (p .kind) 3) (lowOf n) (p .value)) 0 0) (four 0 1 (lowOf (s .start .0)) (lowOf (s .end .0))) (k + 4) (omega arith) (omega arith) w₁ w₂)
 
+-- A WIDTH: a name, or any other count
+module _ (t : List ℕ) (f : Frame) (from word n : ℕ) (p : Part) where
+  pub width-name : p .kind ≡ 4 → nameWords t f from word (p .end) ≡ countWords (widthOf t f n from word p) (countSpan t f from p)
+  unfolding nameWords widthOf pick
+  width-name e = rw (eq-eqb (p .kind) 4 e, span-some t f from n p (λ z. omega arith))
+
+  pub width-count : (p .kind ≡ 4 → ⊥) → countOf n p ≡ widthOf t f n from word p
+  unfolding widthOf pick
+  width-count e = rw (ne-eqb (p .kind) 4 e)
+
+-- a name's bytes and their span, then the width's span
+pub name-laid : (t : List ℕ) (f : Frame) (from word end : ℕ) (l : List ℕ) (k : ℕ) → k + 8 ≤ length l → {l₁ l₂ : List ℕ} →
+    l₁ ≡ laid l k (four 4 (lowOf from) (lowOf word) (lowOf (spanBetween t f (place from) (place word) .start .0))) →
+    l₂ ≡ laid l₁ (k + 4) (four (lowOf (spanBetween t f (place from) (place word) .end .0)) 1 (lowOf (spanBetween t f (place from) (place end) .start .0)) (lowOf (spanBetween t f (place from) (place end) .end .0))) →
+    l₂ ≡ laid l k (nameWords t f from word end)
+unfolding nameWords
+name-laid t f from word end l k h w₁ w₂ =
+    let s = spanBetween t f (place from) (place word) in
+    let o = spanBetween t f (place from) (place end) in
+    two-laid l k (four 4 (lowOf from) (lowOf word) (lowOf (s .start .0))) (four (lowOf (s .end .0)) 1 (lowOf (o .start .0)) (lowOf (o .end .0))) (k + 4) (omega arith) (omega arith) w₁ w₂
+
 -- A TYPE: its bytes, and a word's span
 module _ (t : List ℕ) (f : Frame) (start : ℕ) (x : Kind) where
   pub kind-word : x .word ≡ true → (l : List ℕ) (k : ℕ) → k + 8 ≤ length l → {l₁ l₂ : List ℕ} → l₁ ≡ laid l k (four (lowOf start) (lowOf (x .end)) 0 0) →
@@ -187,14 +208,14 @@ module _ (t : List ℕ) (f : Frame) (start : ℕ) (x : Kind) where
 module _ (t : List ℕ) (f : Frame) (at n : ℕ) (x : SpecTold) (l : List ℕ) (k : ℕ) (room : k + 32 ≤ length l) where
   pub spec-laid : {l₁ l₂ l₃ l₄ l₅ : List ℕ} → l₁ ≡ laid l k (fillWords (fillOf t f at (x .fill))) →
       l₂ ≡ laid l₁ (k + 4) (four (alignOf (x .align)) (signOf (x .sign)) (bitOf (x .alternate)) (bitOf (x .zero))) →
-      l₃ ≡ laid l₂ (k + 8) (countWords (countOf n (x .width)) (countSpan t f (x .from) (x .width))) →
+      l₃ ≡ laid l₂ (k + 8) (countWords (widthOf t f n (x .from) (x .word) (x .width)) (countSpan t f (x .from) (x .width))) →
       l₄ ≡ laid l₃ (k + 16) (countWords (countOf n (x .precision)) (countSpan t f (x .width .end) (x .precision))) →
       l₅ ≡ laid l₄ (k + 24) (four (lowOf (x .precision .end)) (lowOf (x .kind .end)) 0 0 ++ spanWords 0 (kindSpan t f (x .precision .end) (x .kind))) →
       l₅ ≡ laid l k (specWords (specOf t f at n x))
   unfolding specOf specWords
   spec-laid w₁ w₂ w₃ w₄ w₅ =
       let fill = fillOf t f at (x .fill) in
-      let width = countOf n (x .width) in
+      let width = widthOf t f n (x .from) (x .word) (x .width) in
       let widthspan = countSpan t f (x .from) (x .width) in
       let precision = countOf n (x .precision) in
       let precisionspan = countSpan t f (x .width .end) (x .precision) in
@@ -211,14 +232,14 @@ unfolding toldHead
 head-length t f brace x n =
     let p = placeOf (brace + 1) (x .place) n in
     let s = spanBetween t f (place (brace + 1)) (place (x .to)) in
-    omega (arith, length-append (headWords 1 (rangeOf (place brace) (place (x .close + 1))) (placeTag p)) (placeWords p s), placeWords-length p s)
+    omega (arith, length-append (headWords 1 (rangeOf (place brace) (place (x .on))) (placeTag p)) (placeWords p s), placeWords-length p s)
 
 module _ (t : List ℕ) (f : Frame) (brace : ℕ) (x : Told) (n : ℕ) where
   whole : toldHead t f brace x (afterStar n (x .spec .precision)) ++ specWords (argumentOf t f brace n x .spec) ≡ argumentWords (argumentOf t f brace n x)
   unfolding argumentWords argumentOf toldHead placeOf
   whole =
       let p = placeOf (brace + 1) (x .place) (afterStar n (x .spec .precision)) in
-      append-assoc (headWords 1 (rangeOf (place brace) (place (x .close + 1))) (placeTag p))
+      append-assoc (headWords 1 (rangeOf (place brace) (place (x .on))) (placeTag p))
       (placeWords p (spanBetween t f (place (brace + 1)) (place (x .to)))) (specWords (argumentOf t f brace n x .spec))
 
   spec-none : x .colon ≡ false → argumentOf t f brace n x .spec ≡ noSpec (place (x .to)) n .spec

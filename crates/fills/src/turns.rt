@@ -1,10 +1,12 @@
 // One step of a reading: its piece and its error records, written.
 use closing::whole::Closing;
+use closing::whole::PlaceholderRead;
 use frame::Frame;
 use frame::Span;
 use frame::TextPlace;
 use placeholder::ArgumentFaults;
 use placeholder::Mode;
+use quick::Hint;
 use quick::Kind;
 use quick::Part;
 use quick::SpecTold;
@@ -17,6 +19,7 @@ use words::align_word;
 use words::bit;
 use words::low;
 use words::put_argument;
+use words::put_bare_error;
 use words::put_error;
 use words::put_literal;
 use words::put_zeros;
@@ -35,10 +38,12 @@ ghost use Rattle.frame.specs.Spans.{Small};
 ghost use Rattle.placeholder.specs.Specs.{noSpec};
 ghost use Rattle.reading.specs.Faults.{argumentSlots, closingSlots};
 ghost use Rattle.reading.specs.Steps.{stepAt};
-ghost use Rattle.quick.specs.Tellings.{codeSeen, fillOf, countOf, countSpan, kindSpan, afterStar, specOf, argumentOf, nextOf};
+ghost use Rattle.closing.specs.Recovery.{because};
+ghost use Rattle.reading.specs.Records.{recordOf};
+ghost use Rattle.quick.specs.Tellings.{codeSeen, fillOf, countOf, widthOf, countSpan, kindSpan, afterStar, specOf, argumentOf, nextOf, blankFault, blanksOf, hintFault};
 ghost use Rattle.words.specs.Laid.{laid};
-ghost use Rattle.words.specs.Layout.{lowOf, four, placeWords, fillWords, spanWords, countWords, specWords, argumentWords};
-ghost use Rattle.fills.specs.Turning.{Sound, placeOf, toldHead, notedBy, Room, Notes, oneMore, StepRoom, Stepped, Turned};
+ghost use Rattle.words.specs.Layout.{lowOf, four, placeWords, fillWords, spanWords, countWords, specWords, argumentWords, errorWords};
+ghost use Rattle.fills.specs.Turning.{Sound, placeOf, toldHead, toldFill, nameWords, silent, Flawless, missingTold, toldSlots, notedBy, Room, Notes, BackRoom, BackNotes, oneMore, StepRoom, Stepped, Turned};
 
 // What is written: how many pieces, where the error records begin and end, and how many records of the front were met.
 pub struct Marks {
@@ -88,14 +93,7 @@ fn put_told_head(
 {
     let place = told.place;
     let span = frame::span_between(text, frame, TextPlace(brace + 1), TextPlace(told.to));
-    put4(
-        &mut *out,
-        k,
-        1,
-        low(brace),
-        low(told.close + 1),
-        place.kind as u32,
-    );
+    put4(&mut *out, k, 1, low(brace), low(told.on), place.kind as u32);
     put_told_place(out, k + 4, place, brace + 1, next, span);
 }
 
@@ -160,6 +158,53 @@ fn count_value(part: Part, next: usize) -> u32
     part.value as u32
 }
 
+// A width that is a name, from its first byte to where it ends; its `$` ends at `end`.
+fn put_told_name(
+    out: &mut [u32],
+    k: usize,
+    text: &[u8],
+    frame: Frame,
+    from: usize,
+    word: usize,
+    end: usize,
+)
+    requires { ⌜ Small (now text) frame × (k + 8 ≤ length (now out)) ⌝ }
+    ensures { λ _. ⌜ now (out .exit) ≡ laid (now (out .entry)) k (nameWords (now (text .entry)) frame from word end) ⌝ }
+{
+    let name = frame::span_between(text, frame, TextPlace(from), TextPlace(word));
+    let span = frame::span_between(text, frame, TextPlace(from), TextPlace(end));
+    put4(&mut *out, k, 4, low(from), low(word), low(name.start.0));
+    put4(
+        out,
+        k + 4,
+        low(name.end.0),
+        1,
+        low(span.start.0),
+        low(span.end.0),
+    );
+}
+
+// The width of a spec.
+fn put_told_width(
+    out: &mut [u32],
+    k: usize,
+    text: &[u8],
+    frame: Frame,
+    from: usize,
+    word: usize,
+    part: Part,
+    next: usize,
+)
+    requires { ⌜ Small (now text) frame × (part .kind ≤ 4) × (k + 8 ≤ length (now out)) ⌝ }
+    ensures { λ _. ⌜ now (out .exit) ≡ laid (now (out .entry)) k (countWords (widthOf (now (text .entry)) frame next from word part) (countSpan (now (text .entry)) frame from part)) ⌝ }
+{
+    if part.kind == 4 {
+        put_told_name(out, k, text, frame, from, word, part.end);
+        return;
+    }
+    put_told_count(out, k, text, frame, from, part, next);
+}
+
 // A count that starts at `from`.
 fn put_told_count(
     out: &mut [u32],
@@ -214,7 +259,7 @@ fn put_told_spec(
     spec: SpecTold,
     next: usize,
 )
-    requires { ⌜ Small (now text) frame × (spec .width .kind ≤ 2) × (spec .precision .kind ≤ 3) × (k + 32 ≤ length (now out)) ⌝ }
+    requires { ⌜ Small (now text) frame × (spec .width .kind ≤ 4) × (spec .precision .kind ≤ 3) × (k + 32 ≤ length (now out)) ⌝ }
     ensures { λ _. ⌜ now (out .exit) ≡ laid (now (out .entry)) k (specWords (specOf (now (text .entry)) frame at next spec)) ⌝ }
 {
     let align = spec.align;
@@ -231,7 +276,16 @@ fn put_told_spec(
         bit(spec.alternate),
         bit(spec.zero),
     );
-    put_told_count(&mut *out, k + 8, text, frame, spec.from, width, next);
+    put_told_width(
+        &mut *out,
+        k + 8,
+        text,
+        frame,
+        spec.from,
+        spec.word,
+        width,
+        next,
+    );
     put_told_count(&mut *out, k + 16, text, frame, width.end, precision, next);
     put_told_kind(out, k + 24, text, frame, precision.end, kind);
 }
@@ -279,6 +333,15 @@ fn put_told(
     put_told_spec(out, k + 8, text, frame, told.to + 1, spec, next);
 }
 
+// A fault's record as the n-th.
+fn put_record(text: &[u8], frame: Frame, fault: Fault, errors: &mut [u32], n: usize)
+    requires { ⌜ Small (now text) frame × (16 * n + 16 ≤ length (now errors)) ⌝ }
+    ensures { λ _. ⌜ now (errors .exit) ≡ laid (now (errors .entry)) (16 * n) (errorWords (recordOf (now (text .entry)) frame fault)) ⌝ }
+{
+    let record = faults::record_of(text, frame, fault);
+    put_error(errors, n, record);
+}
+
 // A fault's record: one of the front goes before those that are written, if there is room before them, one of the back after them.
 fn put_fault(text: &[u8], frame: Frame, fault: Fault, errors: &mut [u32], marks: Marks) -> Marks
     requires { ⌜ Small (now text) frame × Room (notedBy marks (now errors)) (fault ∷ []) ⌝ }
@@ -287,9 +350,8 @@ fn put_fault(text: &[u8], frame: Frame, fault: Fault, errors: &mut [u32], marks:
     if closing::recover::is_clean(fault) {
         return marks;
     }
-    let record = faults::record_of(text, frame, fault);
     if !faults::is_front(fault) {
-        put_error(errors, marks.high, record);
+        put_record(text, frame, fault, errors, marks.high);
         return Marks {
             pieces: marks.pieces,
             low: marks.low,
@@ -305,13 +367,212 @@ fn put_fault(text: &[u8], frame: Frame, fault: Fault, errors: &mut [u32], marks:
             fronts: marks.fronts + 1,
         };
     }
-    put_error(errors, marks.low - 1, record);
+    put_record(text, frame, fault, errors, marks.low - 1);
     Marks {
         pieces: marks.pieces,
         low: marks.low - 1,
         high: marks.high,
         fronts: marks.fronts + 1,
     }
+}
+
+// The record of the word `_` from one byte to another, where it stands there, and where the records then end.
+fn put_blank(
+    text: &[u8],
+    frame: Frame,
+    blank: bool,
+    from: usize,
+    to: usize,
+    errors: &mut [u32],
+    high: usize,
+) -> usize
+    requires { ⌜ Small (now text) frame × BackRoom high (now errors) (blankFault blank from to ∷ []) ⌝ }
+    ensures { λ r. ⌜ BackNotes (now (text .entry)) frame high (now (errors .entry)) (blankFault blank from to ∷ []) r (now (errors .exit)) ⌝ }
+{
+    if !blank {
+        return high;
+    }
+    let span = frame::span_between(text, frame, TextPlace(from), TextPlace(to));
+    put_bare_error(errors, high, 6, span);
+    high + 1
+}
+
+// Those of what is told: of its place, its width and its type.
+fn put_blanks(
+    text: &[u8],
+    frame: Frame,
+    at: usize,
+    told: Told,
+    errors: &mut [u32],
+    high: usize,
+) -> usize
+    requires { ⌜ Small (now text) frame × BackRoom high (now errors) (argumentSlots (blanksOf at told)) ⌝ }
+    ensures { λ r. ⌜ BackNotes (now (text .entry)) frame high (now (errors .entry)) (argumentSlots (blanksOf at told)) r (now (errors .exit)) ⌝ }
+{
+    let place = told.place;
+    let spec = told.spec;
+    let width = spec.width;
+    let precision = spec.precision;
+    let kind = spec.kind;
+    let high = put_blank(text, frame, place.blank, at, place.end, &mut *errors, high);
+    let high = put_blank(
+        text,
+        frame,
+        width.blank,
+        spec.from,
+        spec.word,
+        &mut *errors,
+        high,
+    );
+    put_blank(
+        text,
+        frame,
+        kind.blank,
+        precision.end,
+        kind.end,
+        errors,
+        high,
+    )
+}
+
+// The span that says why a closing brace was expected: the fill if it is `}`, else the opening brace.
+fn why_of(text: &[u8], frame: Frame, told: Told, opening: Span) -> Span
+    requires { ⌜ Small (now text) frame × (told .to ≤ 65535) ⌝ }
+    ensures { λ r. ⌜ r ≡ because (toldFill (now (text .entry)) frame told) opening ⌝ }
+{
+    if !told.colon {
+        return opening;
+    }
+    let at = told.to + 1;
+    let spec = told.spec;
+    if at == spec.fill {
+        return opening;
+    }
+    if code_at(text, at) != 0x7D {
+        return opening;
+    }
+    scan::span_across(text, frame, TextPlace(at), TextPlace(at))
+}
+
+fn hint_fault(hint: Hint, at: TextPlace, opening: Span) -> Fault
+    ensures { λ r. ⌜ r ≡ hintFault hint at opening ⌝ }
+{
+    match hint {
+        Hint::Silent => Fault::Clean,
+        Hint::Misplaced => Fault::Misplaced(at),
+        Hint::Comma => Fault::Comma(at, opening),
+        Hint::Plus => Fault::PlusFirst(at),
+        Hint::Equals => Fault::Equals(at, opening),
+    }
+}
+
+fn is_silent(hint: Hint) -> bool
+    ensures { λ r. ⌜ r ≡ silent hint ⌝ }
+{
+    match hint {
+        Hint::Silent => true,
+        Hint::Misplaced => false,
+        Hint::Comma => false,
+        Hint::Plus => false,
+        Hint::Equals => false,
+    }
+}
+
+// The records where a closing brace is missing: that it is, and what is said of the sign there.
+fn put_missing(
+    text: &[u8],
+    frame: Frame,
+    brace: usize,
+    told: Told,
+    errors: &mut [u32],
+    marks: Marks,
+) -> Marks
+    requires { ⌜ Small (now text) frame × (told .to ≤ 65535) × Room (notedBy marks (now errors)) (missingTold (now text) frame brace told) ⌝ }
+    ensures { λ r. ⌜ Notes (now (text .entry)) frame marks (now (errors .entry)) (missingTold (now (text .entry)) frame brace told) r (now (errors .exit)) ⌝ }
+{
+    let opening = scan::span_across(text, frame, TextPlace(brace), TextPlace(brace));
+    let why = why_of(text, frame, told, opening);
+    let at = TextPlace(told.close);
+    let hint = told.hint;
+    let fault = closing::recover::expected(text, at, why);
+    put_record(text, frame, fault, &mut *errors, marks.high);
+    if is_silent(hint) {
+        return Marks {
+            pieces: marks.pieces,
+            low: marks.low,
+            high: marks.high + 1,
+            fronts: marks.fronts,
+        };
+    }
+    if marks.low == 0 {
+        return Marks {
+            pieces: marks.pieces,
+            low: 0,
+            high: marks.high + 1,
+            fronts: marks.fronts + 1,
+        };
+    }
+    put_record(
+        text,
+        frame,
+        hint_fault(hint, at, opening),
+        errors,
+        marks.low - 1,
+    );
+    Marks {
+        pieces: marks.pieces,
+        low: marks.low - 1,
+        high: marks.high + 1,
+        fronts: marks.fronts + 1,
+    }
+}
+
+// Whether nothing is wrong in what is told: most of it.
+fn is_flawless(told: Told) -> bool
+    ensures { λ r. ⌜ (r ≡ true → Flawless told) ⌝ }
+{
+    let place = told.place;
+    let spec = told.spec;
+    let width = spec.width;
+    let kind = spec.kind;
+    if !told.closed {
+        return false;
+    }
+    if place.blank {
+        return false;
+    }
+    if width.blank {
+        return false;
+    }
+    !kind.blank
+}
+
+// The records of what is wrong in what is told.
+fn put_wrongs(
+    text: &[u8],
+    frame: Frame,
+    brace: usize,
+    told: Told,
+    errors: &mut [u32],
+    marks: Marks,
+) -> Marks
+    requires { ⌜ Small (now text) frame × (brace < 65535) × (told .to ≤ 65535) × Room (notedBy marks (now errors)) (toldSlots (now text) frame brace told) ⌝ }
+    ensures { λ r. ⌜ Notes (now (text .entry)) frame marks (now (errors .entry)) (toldSlots (now (text .entry)) frame brace told) r (now (errors .exit)) ⌝ }
+{
+    if is_flawless(told) {
+        return marks;
+    }
+    let high = put_blanks(text, frame, brace + 1, told, &mut *errors, marks.high);
+    let after = Marks {
+        pieces: marks.pieces,
+        low: marks.low,
+        high,
+        fronts: marks.fronts,
+    };
+    if told.closed {
+        return after;
+    }
+    put_missing(text, frame, brace, told, errors, after)
 }
 
 // An argument's five.
@@ -441,10 +702,10 @@ fn brace_turn(
                 return Turn {
                     more: true,
                     state: State {
-                        at: TextPlace(told.close + 1),
+                        at: TextPlace(told.on),
                         next: next_after(told, state.next),
                     },
-                    marks: one_more(marks),
+                    marks: put_wrongs(text, frame, i, told, errors, one_more(marks)),
                 };
             }
             plain_turn(text, frame, mode, state, pieces, errors, marks)
@@ -452,6 +713,26 @@ fn brace_turn(
         Mode::InlineAsm => plain_turn(text, frame, mode, state, pieces, errors, marks),
         Mode::Diagnostic => plain_turn(text, frame, mode, state, pieces, errors, marks),
     }
+}
+
+// A placeholder, written from its record.
+fn put_placeholder(
+    text: &[u8],
+    frame: Frame,
+    read: PlaceholderRead,
+    pieces: &mut [u32],
+    errors: &mut [u32],
+    marks: Marks,
+) -> Marks
+    requires { ⌜ Small (now text) frame × StepRoom (Step.Placeholder read) marks (now pieces) (now errors) ⌝ }
+    ensures { λ r. ⌜ Stepped (now (text .entry)) frame (Step.Placeholder read) marks (now (pieces .entry)) (now (errors .entry)) r (now (pieces .exit)) (now (errors .exit)) ⌝ }
+{
+    let argument = read.argument;
+    let faults = read.faults;
+    let closing = read.closing;
+    put_argument(pieces, marks.pieces, argument);
+    let marks = put_argument_faults(text, frame, faults, &mut *errors, one_more(marks));
+    put_closing_faults(text, frame, closing, errors, marks)
 }
 
 // A step, written from its record.
@@ -473,14 +754,7 @@ fn put_step(
             put_literal(pieces, marks.pieces, view.start.0, view.end.0);
             one_more(marks)
         }
-        Step::Placeholder(read) => {
-            let argument = read.argument;
-            let faults = read.faults;
-            let closing = read.closing;
-            put_argument(pieces, marks.pieces, argument);
-            let marks = put_argument_faults(text, frame, faults, &mut *errors, one_more(marks));
-            put_closing_faults(text, frame, closing, errors, marks)
-        }
+        Step::Placeholder(read) => put_placeholder(text, frame, read, pieces, errors, marks),
     }
 }
 

@@ -10,17 +10,13 @@ use lib.Dec.{eqb}
 use lib.ListN.{length, getD, take, drop, drop-of-length-le}
 use lib.Seq.{drop-cons}
 use Rattle.unicode.specs.Choice.{both}
+use Rattle.unicode.specs.ChoiceLaws.{not-so}
 use Rattle.frame.specs.Frames.{same}
 use Rattle.frame.specs.FrameLaws.{same-equal}
 
--- a test that cannot hold is false
-never : (x : Bool) → (x ≡ true → ⊥) → x ≡ false
-never true apart = absurd (apart refl)
-never false apart = refl
-
 -- lists of two lengths are not the same
 pub lengths-differ : (a b : List ℕ) → (length a ≡ length b → ⊥) → same a b ≡ false
-lengths-differ a b apart = never (same a b) (λ e. apart (ap length (same-equal a b e)))
+lengths-differ a b apart = not-so (same a b) (λ e. apart (ap length (same-equal a b e)))
 
 -- the lists are the same from a place onward
 unfoldable pub sameFrom : List ℕ → List ℕ → ℕ → Bool

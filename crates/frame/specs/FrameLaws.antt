@@ -10,20 +10,11 @@ use borrow.Author.Tests.{eqb-true, eq-eqb}
 use lib.ListN.{length}
 use lib.Dec.{eqb}
 use Rattle.unicode.specs.Choice.{both}
+use Rattle.unicode.specs.ChoiceLaws.{both-left, both-right}
 use Rattle.frame.specs.declared.Style.{Style}
 use Rattle.frame.specs.declared.Style.the-variants.{Plain, Raw}
 use Rattle.frame.specs.Frames.{hashesOf, body, rawLiteral, same, isLiteral, frameOf}
 use Rattle.frame.specs.Spans.{Small}
-
--- where both of two tests hold, the first does
-pub both-left : (p q : Bool) → both p q ≡ true → p ≡ true
-both-left true q e = refl
-both-left false q e = e
-
--- and the second
-pub both-right : (p q : Bool) → both p q ≡ true → q ≡ true
-both-right true q e = e
-both-right false q e = cc
 
 -- what `same` finds equal is equal
 pub same-equal : (a b : List ℕ) → same a b ≡ true → a ≡ b

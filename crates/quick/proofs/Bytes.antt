@@ -1,30 +1,31 @@
--- Bytes tell characters: an ASCII character, a digit, an align, a word. Rests on `scan`'s laws of its leaves and `unicode`'s of characters.
+-- Bytes tell characters: an ASCII character, a digit, an align, a word, a run. Rests on `scan`'s laws of its leaves and `unicode`'s of characters.
 use Prim.Native.Nat.{ℕ, zero, suc, _+_, _≤_, _<_}
 use mathlib.Core.Path.{_≡_, refl, sym, _∙_, ap}
 use mathlib.Core.Bool.{Bool, true, false, true≢false}
-use mathlib.Core.List.{List, []}
+use mathlib.Core.List.{List, [], _∷_}
 use native.Mathlib.Omega.{arith}
-use borrow.Author.Tests.{eqb-true, eq-eqb, ne-eqb, ltb-true, ltb-false}
+use borrow.Author.Tests.{eq-eqb, ne-eqb, ltb-true, ltb-false}
 use lib.Dec.{eqb, ltb}
 use lib.ListN.{length, getD, List·getD-eq-default}
-use Rattle.unicode.specs.Choice.{pick, both, within}
+use Rattle.unicode.specs.Choice.{pick, within}
 use Rattle.unicode.specs.ChoiceLaws.{not-so, within-low, within-high}
 use Rattle.unicode.specs.Utf8.{peekAt}
-use Rattle.unicode.specs.Chars.{takeWhile, runEnd}
-use Rattle.unicode.specs.CharLaws.{Peeked, peeked, ended, past-end, ascii-char, char-ascii, run-stop, run-end}
+use Rattle.unicode.specs.Chars.{Ch, charsFrom, takeWhile, runEnd}
+use Rattle.unicode.specs.CharLaws.{Peeked, peeked, ended, past-end, ascii-char, char-ascii, first, none-left, run-more, run-stop, run-end}
 use Rattle.unicode.specs.Ascii.{asciiStart}
 use Rattle.unicode.specs.AsciiLaws.{ascii-start}
-use Rattle.unicode.specs.Questions.{isContinue}
+use Rattle.unicode.specs.Questions.{isSpace, isContinue}
 use Rattle.unicode.specs.declared.Seen.{Seen}
 use Rattle.unicode.specs.declared.Seen.the-variants.{Char, End}
 use Rattle.frame.specs.Places.{place, rangeOf}
 use Rattle.scan.specs.Characters.{isAt, consumed}
 use Rattle.scan.specs.Words.{isDigit, digitsAt, numberFrom, numberRead, wordEnd, isUnderscore, wordRead}
-use Rattle.scan.specs.ScanLaws.{is-at-byte, is-at-end}
+use Rattle.scan.specs.ScanLaws.{run-in, word-in, is-at-byte, is-at-end}
 use Rattle.scan.specs.declared.Fault.{Fault}
 use Rattle.scan.specs.declared.Number.{Number}
 use Rattle.placeholder.specs.Parts.{isAlign}
-use Rattle.quick.specs.PartsTold.{Room, alignByte}
+use Rattle.quick.specs.Tellings.{blankFault}
+use Rattle.quick.specs.PartsTold.{Room, alignByte, blankWord}
 
 -- a digit is between `0` and `9`
 pub digit-range : {b : ℕ} → isDigit b ≡ true → (0x30 ≤ b) × (b ≤ 0x39)
@@ -100,28 +101,41 @@ module _ (t : List ℕ) (i : ℕ) where
   unfolding numberRead numberFrom pick
   no-number n = rw (no-digit n .1, eq-eqb i i refl)
 
-module _ (t : List ℕ) (at end : ℕ) (e : end ≡ wordEnd t (place at) .0) (n : getD t at 0 ≡ 0x5F → end ≡ at + 1 → ⊥) where
-  -- a word that is not `_`
-  pub word-plain : wordRead t (place at) ≡ record { word = rangeOf (place at) (place end); fault = Fault.Clean }
-  unfolding wordRead isUnderscore pick
-  word-plain = rw (← e, at-byte t at 0x5F (omega arith) (omega arith), none)
+-- a word, with the fault where it is `_`
+pub word-told : (t : List ℕ) (at end : ℕ) → end ≡ wordEnd t (place at) .0 →
+    wordRead t (place at) ≡ record { word = rangeOf (place at) (place end); fault = blankFault (blankWord (getD t at 0) at end) at end }
+unfolding wordRead isUnderscore blankWord blankFault
+word-told t at end e = rw (← e, at-byte t at 0x5F (omega arith) (omega arith))
+
+module _ (f : ℕ → Bool) (t : List ℕ) where
+  -- a run that has ended is at its end
+  pub run-again : (i : ℕ) → runEnd f t (runEnd f t i) ≡ runEnd f t i
+  run-again i = go (charsFrom t i) i refl
     where
-      none : both (eqb (getD t at 0) 0x5F) (eqb end (at + 1)) ≡ false
-      none = go (eqb (getD t at 0) 0x5F) refl (eqb end (at + 1)) refl
+      go : (cs : List Ch) (i : ℕ) → charsFrom t i ≡ cs → runEnd f t (runEnd f t i) ≡ runEnd f t i
+      go [] i e = ap (runEnd f t) (run-end f t i (past-end t i (none-left t i e)))
+      go (c ∷ cs) i e = by (go cs (i + c .width) (first t i c cs e .rest)) (f (c .code)) refl
         where
-          go : (x : Bool) → eqb (getD t at 0) 0x5F ≡ x → (y : Bool) → eqb end (at + 1) ≡ y → both x y ≡ false
-          go false p y q = refl
-          go true p false q = refl
-          go true p true q = absurd (n (eqb-true (getD t at 0) 0x5F p) (eqb-true end (at + 1) q))
+          p : Peeked t i (c .code) (c .width)
+          p = peeked t i (first t i c cs e .seen)
+
+          by : runEnd f t (runEnd f t (i + c .width)) ≡ runEnd f t (i + c .width) → (x : Bool) → f (c .code) ≡ x →
+              runEnd f t (runEnd f t i) ≡ runEnd f t i
+          by r true y = rw (run-more f p y) at r
+          by r false n = ap (runEnd f t) (run-stop f p n)
 
 module _ {t : List ℕ} {at : ℕ} where
-  -- a byte that is not 0 is at a place within the text
-  pub room-at : {c : ℕ} → length t ≤ 65535 → getD t at 0 ≡ c → 0 < c → Room t at
-  room-at r e p = let h = byte-in t at (omega arith) in record { within = omega arith; small = r }
+  -- after whitespace reading is within the text
+  pub room-spaces : {from : ℕ} → length t ≤ 65535 → from ≤ length t → at ≡ runEnd isSpace t from → Room t at
+  room-spaces {from} r h e = record { within = rw e (run-in isSpace t from h); small = r }
 
-  -- and so is the place after it
+  -- and after a byte that is not 0
   pub room-past : {c : ℕ} → Room t at → getD t at 0 ≡ c → 0 < c → Room t (at + 1)
   room-past r e p = let h = byte-in t at (omega arith) in record { within = omega arith; small = r .small }
+
+  -- and after a word
+  pub room-word : {end : ℕ} → Room t at → end ≡ wordEnd t (place at) .0 → Room t end
+  room-word r e = record { within = rw e (word-in t (place at) (r .within)); small = r .small }
 
 -- 0 starts no word
 no-start : asciiStart 0 ≡ false

@@ -3,4 +3,5 @@ pub mod Bytes
 pub mod Numbers
 pub mod Parts
 pub mod Specs
+pub mod Endings
 pub mod Wholes

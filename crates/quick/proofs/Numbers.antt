@@ -8,7 +8,7 @@ use native.Mathlib.Omega.{arith}
 use borrow.Author.Tests.{ne-eqb, ltb-true, ltb-false, le-ltb}
 use lib.Dec.{ltb}
 use lib.ListN.{length, getD}
-use Rattle.unicode.specs.Choice.{pick, within}
+use Rattle.unicode.specs.Choice.{pick}
 use Rattle.unicode.specs.Chars.{takeWhile, runEnd}
 use Rattle.unicode.specs.CharLaws.{run-more}
 use Rattle.frame.specs.Places.{place, rangeOf}
@@ -16,7 +16,7 @@ use Rattle.scan.specs.Words.{isDigit, decimal, noted, digitsAt, numberFrom, num
 use Rattle.scan.specs.declared.Fault.{Fault}
 use Rattle.scan.specs.declared.Number.{Number}
 use Rattle.scan.specs.declared.NumberRead.{NumberRead}
-use Rattle.quick.specs.PartsTold.{Room, NumberTold}
+use Rattle.quick.specs.PartsTold.{Room, part, NumberTold}
 use Rattle.quick.proofs.Bytes.{byte-in, digit-range, digit-seen, no-digit}
 
 -- ten to the power k
@@ -106,11 +106,12 @@ spelt-more {t} {at} {v} {i} {b} s h e y =
 
 -- no digit more: the number is told
 pub spelt-stop : {t : List ℕ} {at v i : ℕ} → Spelt t at v i → isDigit (getD t at 0) ≡ true → isDigit (getD t i 0) ≡ false →
-    NumberTold t at (record { kind = 1; value = v; end = i })
+    NumberTold t at (part 1 v i false)
 spelt-stop {t} {at} {v} {i} s y z =
     record {
       one = λ _. refl;
       read = λ _. sym (s .same) ∙ rest-stop t v at i z (omega (arith, s .most)) (go (ltb at i) refl);
+      whole = refl;
       inside = s .inside;
     }
   where

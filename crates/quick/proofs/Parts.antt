@@ -1,10 +1,10 @@
 -- What is told of each part is what is read, from the bytes at its place. Rests on Bytes and on the definitions of `scan` and `placeholder`.
-use Prim.Native.Nat.{ℕ, _+_, _≤_}
+use Prim.Native.Nat.{ℕ, _+_, _≤_, _<_}
 use mathlib.Core.Path.{_≡_, refl, sym, _∙_}
-use mathlib.Core.Bool.{Bool, true, false, true≢false, not}
+use mathlib.Core.Bool.{Bool, true, false, true≢false}
 use mathlib.Core.List.{List}
 use native.Mathlib.Omega.{arith}
-use borrow.Author.Tests.{eqb-true, eqb-false, ltb-true, ltb-false, eq-eqb, ne-eqb, not-true}
+use borrow.Author.Tests.{eqb-true, eqb-false, ltb-true, ltb-false, eq-eqb, ne-eqb}
 use lib.Dec.{eqb, ltb}
 use lib.ListN.{length, getD}
 use Rattle.unicode.specs.Choice.{pick}
@@ -18,24 +18,23 @@ use Rattle.scan.specs.Counts.{isEmpty, counted, numberCount, nameCount, countRe
 use Rattle.scan.specs.ScanLaws.{word-on, word-in}
 use Rattle.scan.specs.declared.Count.{Count}
 use Rattle.scan.specs.declared.CountRead.{CountRead}
-use Rattle.scan.specs.declared.Fault.{Fault}
 use Rattle.placeholder.specs.Places.{isR, wordPlace, placeRead}
-use Rattle.placeholder.specs.Parts.{fillRead, afterDot, precisionRead}
+use Rattle.placeholder.specs.Parts.{isImplied, fillRead, afterDot, precisionRead}
 use Rattle.placeholder.specs.Types.{hexType, isHexOrHash, debugType, wordType, typeRead}
 use Rattle.placeholder.specs.declared.MaybeSpan.{MaybeSpan}
 use Rattle.quick.specs.declared.Part.{Part}
 use Rattle.quick.specs.declared.Kind.{Kind}
-use Rattle.quick.specs.Tellings.{foundOf, countOf, countSpan, fillOf, kindSpan, afterStar}
-use Rattle.quick.specs.PartsTold.{Known, endsByte, alignByte, NumberTold, PlaceTold, FillTold, CountTold, CountGiven, PrecisionTold, KindTold}
-use Rattle.quick.proofs.Bytes.{byte-in, at-byte, has, lacks, align-byte, no-number, word-plain}
+use Rattle.quick.specs.Tellings.{foundOf, countOf, widthOf, countSpan, fillOf, kindSpan, afterStar, blankFault}
+use Rattle.quick.specs.PartsTold.{Known, part, endsByte, alignByte, blankWord, NumberTold, PlaceTold, FillTold, CountGiven, WidthTold, PrecisionTold, KindTold}
+use Rattle.quick.proofs.Bytes.{byte-in, at-byte, has, lacks, align-byte, no-number, word-told}
 
 -- a part that is not told
 abbrev pub unknown : ℕ → Part
-unknown i = record { kind = 9; value = 0; end = i }
+unknown i = part 9 0 i false
 
 -- nothing stands
 abbrev pub none : ℕ → Part
-none i = record { kind = 0; value = 0; end = i }
+none i = part 0 0 i false
 
 -- a word that is not `r`
 not-r : (t : List ℕ) (at end : ℕ) → (end ≡ at + 1 → getD t at 0 ≡ 0x72 → ⊥) → isR t (rangeOf (place at) (place end)) ≡ false
@@ -48,9 +47,21 @@ not-r t at end n = go (eqb (getD t at 0) 0x72) refl
         rw (has t at 0x72 (omega arith) (omega arith) b, ne-eqb (at + 1) end (λ q. n (sym q) b))
     go false y = rw (lacks t at 0x72 (omega arith) (omega arith) (eqb-false (getD t at 0) 0x72 y))
 
+-- a count is implied where nothing is told
+implied : (n : ℕ) (p : Part) → isImplied (countOf n p) ≡ eqb (p .kind) 0
+unfolding countOf pick
+implied n p = go (eqb (p .kind) 0) (eqb (p .kind) 1) (eqb (p .kind) 2)
+  where
+    go : (a b c : Bool) →
+        isImplied (pick a Count.Implied (pick b (Count.Fixed (p .value)) (pick c (Count.ByArgument (p .value)) (Count.ByStar n)))) ≡ a
+    go true b c = refl
+    go false true c = refl
+    go false false true = refl
+    go false false false = refl
+
 -- a sign of a type, after which a spec is at its end
 abbrev pub signOf : List ℕ → ℕ → Kind
-signOf t at = record { ok = endsByte (getD t (at + 1) 0); word = false; end = at + 1 }
+signOf t at = record { ok = endsByte (getD t (at + 1) 0); word = false; blank = false; end = at + 1 }
 
 -- after such a sign no other stands
 ends-not : {b : ℕ} (c : ℕ) → endsByte b ≡ true → (c ≡ 0x7D → ⊥) → (c ≡ 0x20 → ⊥) → b ≡ c → ⊥
@@ -73,59 +84,54 @@ module _ {t : List ℕ} {at : ℕ} where
 
   -- a place that is a number
   pub place-number : {p : Part} → NumberTold t at p → PlaceTold t at p
-  unfolding placeRead foundOf pick
-  place-number n = record { most = λ k. omega (arith, n .one k); read = λ k. rw (n .read k, n .one k); inside = n .inside }
+  unfolding placeRead foundOf blankFault pick
+  place-number n =
+      record {
+        most = λ k. omega (arith, n .one k);
+        read = λ k. rw (n .read k, n .one k, n .whole);
+        inside = n .inside;
+      }
 
   -- no place
   pub place-nothing : isDigit (getD t at 0) ≡ false → wordEnd t (place at) .0 ≡ at → at ≤ length t → PlaceTold t at (none at)
-  unfolding placeRead wordPlace wordRead isEmpty foundOf pick
+  unfolding placeRead wordPlace wordRead isEmpty foundOf blankFault pick
   place-nothing d e h =
       record { most = λ _. omega arith; read = λ _. rw (no-number t at d, e, eq-eqb at at refl); inside = h }
 
-  -- a place that is a word, neither `_` nor `r`
+  -- a place that is a word, not `r`
   pub place-word : {end : ℕ} → isDigit (getD t at 0) ≡ false → end ≡ wordEnd t (place at) .0 → (end ≡ at → ⊥) →
-      (end ≡ at + 1 → getD t at 0 ≡ 0x5F → ⊥) → (end ≡ at + 1 → getD t at 0 ≡ 0x72 → ⊥) → at ≤ length t →
-      PlaceTold t at (record { kind = 2; value = 0; end = end })
+      (end ≡ at + 1 → getD t at 0 ≡ 0x72 → ⊥) → at ≤ length t →
+      PlaceTold t at (part 2 0 end (blankWord (getD t at 0) at end))
   unfolding placeRead wordPlace isEmpty foundOf pick
-  place-word {end} d e s u r h =
+  place-word {end} d e s r h =
       record {
         most = λ _. omega arith;
-        read =
-            λ _.
-            rw (
-              no-number t at d,
-              word-plain t at end e (λ b q. u q b),
-              ne-eqb at end (λ q. s (sym q)),
-              not-r t at end r,
-            );
+        read = λ _. rw (no-number t at d, word-told t at end e, ne-eqb at end (λ q. s (sym q)), not-r t at end r);
         inside = rw e (word-in t (place at) h);
       }
-
-  -- a count that is not told
-  pub count-unknown : {i : ℕ} → i ≤ length t → CountTold t at (unknown i)
-  count-unknown h = record { most = λ k. absurd (k refl); read = λ k. absurd (k refl); inside = h }
 
   module _ {p : Part} (n : NumberTold t at p) where
     -- a count whose number is not told
     pub count-long : p .kind ≡ 9 → CountGiven t at p
     count-long e =
         record {
-          told = record { most = λ k. absurd (k e); read = λ k. absurd (k e); inside = n .inside };
           some = λ k. absurd (k e);
+          most = λ k. absurd (k e);
+          read = λ k. absurd (k e);
+          whole = n .whole;
+          inside = n .inside;
         }
 
     -- a number with `$`
-    pub count-argument : Known p → getD t (p .end) 0 ≡ 0x24 → CountGiven t at (record { kind = 2; value = p .value; end = p .end + 1 })
+    pub count-argument : Known p → getD t (p .end) 0 ≡ 0x24 → CountGiven t at (part 2 (p .value) (p .end + 1) false)
     unfolding countRead numberCount countOf pick
     count-argument k b =
         record {
-          told =
-              record {
-                most = λ _. omega arith;
-                read = λ _ f m. rw (n .read k, has t (p .end) 0x24 (omega arith) (omega arith) b);
-                inside = let h = byte-in t (p .end) (omega arith) in omega arith;
-              };
           some = λ _. omega arith;
+          most = λ _. omega arith;
+          read = λ _ f m. rw (n .read k, has t (p .end) 0x24 (omega arith) (omega arith) b);
+          whole = refl;
+          inside = let h = byte-in t (p .end) (omega arith) in omega arith;
         }
 
     -- a number without
@@ -133,29 +139,61 @@ module _ {t : List ℕ} {at : ℕ} where
     unfolding countRead numberCount countOf pick
     count-fixed k b =
         record {
-          told =
-              record {
-                most = λ _. omega (arith, n .one k);
-                read = λ _ f m. rw (n .read k, lacks t (p .end) 0x24 (omega arith) (omega arith) b, n .one k);
-                inside = n .inside;
-              };
           some = λ _. omega (arith, n .one k);
+          most = λ _. omega (arith, n .one k);
+          read = λ _ f m. rw (n .read k, lacks t (p .end) 0x24 (omega arith) (omega arith) b, n .one k);
+          whole = n .whole;
+          inside = n .inside;
         }
 
-  -- no count: a word without `$` is left, and it is not `_`
-  pub count-none : {end : ℕ} → isDigit (getD t at 0) ≡ false → end ≡ wordEnd t (place at) .0 → (getD t end 0 ≡ 0x24 → ⊥) →
-      (getD t at 0 ≡ 0x5F → ⊥) → at ≤ length t → CountTold t at (none at)
-  unfolding countRead nameCount countOf pick
-  count-none {end} d e b u h =
+  -- a width that is a number
+  pub width-count : {word : ℕ} {p : Part} → CountGiven t at p → WidthTold t at word p
+  unfolding widthOf blankFault pick
+  width-count {p = p} g =
       record {
-        most = λ _. omega arith;
-        read =
-            λ _ f m.
-            rw (no-number t at d, word-plain t at end e (λ q _. u q), lacks t end 0x24 (omega arith) (omega arith) b)
-            (pick-elim (λ (r : CountRead). r ≡ counted Count.Implied (place at) Fault.Clean) (isEmpty (rangeOf (place at) (place end)))
-            (λ _. refl) (λ _. refl));
-        inside = h;
+        most = λ k. omega (arith, g .most k);
+        read = λ k f n. rw (g .read k f n, ne-eqb (p .kind) 4 (λ e. omega (arith, g .most k)), g .whole);
+        spanned = λ k f n. rw (ne-eqb (p .kind) 4 (λ e. omega (arith, g .most k))) (implied n p);
+        inside = g .inside;
       }
+
+  module _ {word : ℕ} (d : isDigit (getD t at 0) ≡ false) (e : word ≡ wordEnd t (place at) .0) where
+    -- a width that is a name
+    pub width-name : at < word → getD t word 0 ≡ 0x24 → WidthTold t at word (part 4 0 (word + 1) (blankWord (getD t at 0) at word))
+    unfolding countRead nameCount isEmpty widthOf pick
+    width-name l b =
+        record {
+          most = λ _. omega arith;
+          read =
+              λ _ f n.
+              rw (
+                no-number t at d,
+                word-told t at word e,
+                ne-eqb at word (λ q. omega arith),
+                has t word 0x24 (omega arith) (omega arith) b,
+              );
+          spanned = λ _ f n. refl;
+          inside = let h = byte-in t word (omega arith) in omega arith;
+        }
+
+    -- no width: a word without `$` is left
+    pub width-none : (at < word → getD t word 0 ≡ 0x24 → ⊥) → at ≤ length t →
+        WidthTold t at word (part 0 0 at (blankWord (getD t at 0) at word))
+    unfolding countRead nameCount isEmpty widthOf countOf pick
+    width-none b h =
+        record {
+          most = λ _. omega arith;
+          read =
+              λ _ f n.
+              rw (no-number t at d, word-told t at word e)
+              (pick-elim (λ (r : CountRead). r ≡ counted Count.Implied (place at) (blankFault (blankWord (getD t at 0) at word) at word)) (eqb at word) (λ _. refl)
+              (λ q. rw (lacks t word 0x24 (omega arith) (omega arith) (b (some q)))));
+          spanned = λ _ f n. refl;
+          inside = h;
+        }
+      where
+        some : eqb at word ≡ false → at < word
+        some q = let l : at ≤ word = rw e (word-on t (place at)) in let n = eqb-false at word q in omega arith
 
   -- a precision that is not told
   pub precision-unknown : {i : ℕ} → i ≤ length t → PrecisionTold t at (unknown i)
@@ -169,7 +207,7 @@ module _ {t : List ℕ} {at : ℕ} where
 
   module _ (dot : getD t at 0 ≡ 0x2E) where
     -- a star
-    pub precision-star : getD t (at + 1) 0 ≡ 0x2A → PrecisionTold t at (record { kind = 3; value = 0; end = at + 2 })
+    pub precision-star : getD t (at + 1) 0 ≡ 0x2A → PrecisionTold t at (part 3 0 (at + 2) false)
     unfolding precisionRead afterDot countOf countSpan afterStar pick
     precision-star b =
         let q : at + 1 + 1 ≡ at + 2 = omega arith in
@@ -186,17 +224,17 @@ module _ {t : List ℕ} {at : ℕ} where
     unfolding precisionRead afterDot countSpan afterStar pick
     precision-count {p} b g =
         record {
-          most = λ k. omega (arith, g .told .most k);
+          most = λ k. omega (arith, g .most k);
           read =
               λ k f n.
               rw (
                 has t at 0x2E (omega arith) (omega arith) dot,
                 lacks t (at + 1) 0x2A (omega arith) (omega arith) b,
-                g .told .read k f n,
+                g .read k f n,
                 ne-eqb (p .kind) 0 (λ e. omega (arith, g .some k)),
-                ne-eqb (p .kind) 3 (λ e. omega (arith, g .told .most k)),
+                ne-eqb (p .kind) 3 (λ e. omega (arith, g .most k)),
               );
-          inside = g .told .inside;
+          inside = g .inside;
         }
 
   -- a fill: an align follows the character
@@ -226,7 +264,7 @@ module _ {t : List ℕ} {at : ℕ} where
 
   -- `?`
   pub kind-debug : getD t at 0 ≡ 0x3F → KindTold t at (signOf t at)
-  unfolding typeRead debugType isHexOrHash kindSpan pick
+  unfolding typeRead debugType isHexOrHash kindSpan blankFault pick
   kind-debug b =
       record {
         read =
@@ -248,7 +286,7 @@ module _ {t : List ℕ} {at : ℕ} where
 
   -- `x`
   pub kind-lower : getD t at 0 ≡ 0x78 → KindTold t at (signOf t at)
-  unfolding typeRead hexType kindSpan pick
+  unfolding typeRead hexType kindSpan blankFault pick
   kind-lower b =
       record {
         read =
@@ -262,7 +300,7 @@ module _ {t : List ℕ} {at : ℕ} where
 
   -- `X`
   pub kind-upper : getD t at 0 ≡ 0x58 → KindTold t at (signOf t at)
-  unfolding typeRead hexType kindSpan pick
+  unfolding typeRead hexType kindSpan blankFault pick
   kind-upper b =
       record {
         read =
@@ -277,17 +315,18 @@ module _ {t : List ℕ} {at : ℕ} where
 
   -- a word, or nothing
   pub kind-word : {end : ℕ} → (getD t at 0 ≡ 0x3F → ⊥) → (getD t at 0 ≡ 0x78 → ⊥) → (getD t at 0 ≡ 0x58 → ⊥) →
-      end ≡ wordEnd t (place at) .0 → at ≤ length t → KindTold t at (record { ok = not (eqb (getD t at 0) 0x5F); word = ltb at end; end = end })
+      end ≡ wordEnd t (place at) .0 → at ≤ length t →
+      KindTold t at (record { ok = true; word = ltb at end; blank = blankWord (getD t at 0) at end; end = end })
   unfolding typeRead wordType isEmpty kindSpan pick
   kind-word {end} d l u e h =
       record {
         read =
-            λ y f.
+            λ _ f.
             rw (
               lacks t at 0x78 (omega arith) (omega arith) l,
               lacks t at 0x58 (omega arith) (omega arith) u,
               lacks t at 0x3F (omega arith) (omega arith) d,
-              word-plain t at end e (λ q _. eqb-false (getD t at 0) 0x5F (not-true (eqb (getD t at 0) 0x5F) y) q),
+              word-told t at end e,
               span-by at end _ (rw e (word-on t (place at))),
             );
         inside = rw e (word-in t (place at) h);

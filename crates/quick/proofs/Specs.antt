@@ -4,7 +4,6 @@ use mathlib.Core.Path.{_≡_, refl, sym, _∙_, ap}
 use mathlib.Core.Bool.{Bool, true, false}
 use mathlib.Core.List.{List}
 use native.Mathlib.Omega.{arith}
-use lib.Dec.{eqb}
 use lib.ListN.{length, getD}
 use Rattle.unicode.specs.Choice.{pick}
 use Rattle.unicode.specs.ChoiceLaws.{pick-elim}
@@ -14,47 +13,33 @@ use Rattle.frame.specs.declared.TextPlace.{TextPlace}
 use Rattle.scan.specs.Characters.{consumed}
 use Rattle.scan.specs.ScanLaws.{consumed-in, consumed-none}
 use Rattle.scan.specs.declared.Consumed.{Consumed}
-use Rattle.scan.specs.declared.Count.{Count}
-use Rattle.scan.specs.declared.Fault.{Fault}
 use Rattle.placeholder.specs.Format.{formatRead}
-use Rattle.placeholder.specs.Parts.{alignRead, signRead, isImplied, plainWidth, widthRead}
+use Rattle.placeholder.specs.Parts.{alignRead, signRead, plainWidth, widthRead}
 use Rattle.placeholder.specs.declared.format.AlignRead.{AlignRead}
 use Rattle.placeholder.specs.declared.format.SignRead.{SignRead}
 use Rattle.placeholder.specs.declared.format.WidthRead.{WidthRead}
 use Rattle.quick.specs.declared.Part.{Part}
 use Rattle.quick.specs.declared.Kind.{Kind}
-use Rattle.quick.specs.Tellings.{countOf, countSpan, specOf}
-use Rattle.quick.specs.PartsTold.{Known, FillTold, CountTold, PrecisionTold, KindTold, AllTold, SpecKnown}
+use Rattle.quick.specs.Tellings.{widthOf, countSpan, specOf, blankFault}
+use Rattle.quick.specs.PartsTold.{Room, Known, FillTold, WidthTold, PrecisionTold, KindTold, AllTold, SpecKnown}
 use Rattle.quick.proofs.Bytes.{lacks}
 
--- a count is implied where nothing is told
-implied : (n : ℕ) (p : Part) → isImplied (countOf n p) ≡ eqb (p .kind) 0
-unfolding countOf pick
-implied n p = go (eqb (p .kind) 0) (eqb (p .kind) 1) (eqb (p .kind) 2)
-  where
-    go : (a b c : Bool) →
-        isImplied (pick a Count.Implied (pick b (Count.Fixed (p .value)) (pick c (Count.ByArgument (p .value)) (Count.ByStar n)))) ≡ a
-    go true b c = refl
-    go false true c = refl
-    go false false true = refl
-    go false false false = refl
-
 -- a width that is told, with the `0` flag beside it
-abbrev widthOf : List ℕ → Frame → ℕ → Bool → ℕ → Part → WidthRead
-widthOf t f n zero from p =
+abbrev flagged : List ℕ → Frame → ℕ → Bool → ℕ → ℕ → Part → WidthRead
+flagged t f n zero from word p =
     record {
       zero = zero;
-      width = countOf n p;
+      width = widthOf t f n from word p;
       span = countSpan t f from p;
       at = place (p .end);
-      fault = Fault.Clean;
+      fault = blankFault (p .blank) from word;
     }
 
--- a count that is told is the width
-plain-told : {t : List ℕ} {at : ℕ} {p : Part} → CountTold t at p → Known p → (f : Frame) (zero : Bool) (n : ℕ) →
-    plainWidth t f zero (place at) ≡ widthOf t f n zero at p
+-- it is the width that is read
+plain-told : {t : List ℕ} {at word : ℕ} {p : Part} → WidthTold t at word p → Known p → (f : Frame) (zero : Bool) (n : ℕ) →
+    plainWidth t f zero (place at) ≡ flagged t f n zero at word p
 unfolding plainWidth countSpan
-plain-told {p = p} c k f zero n = rw (c .read k f n, implied n p)
+plain-told w k f zero n = rw (w .read k f n, w .spanned k f n)
 
 -- the flag is passed, unless `$` follows it
 width-flag : (t : List ℕ) (f : Frame) (at : TextPlace) (fl : Consumed) → fl ≡ consumed t at 0x30 →
@@ -98,14 +83,18 @@ marks a s h f = record { align = a; sign = s; hash = h; flag = f }
 
 module _ {t : List ℕ} {from : ℕ} {al : AlignRead} {si : SignRead} {ha fl : Consumed} (m : Marks t from al si ha fl) where
   -- they end within the text
-  pub marks-in : from ≤ length t → fl .at .0 ≤ length t
+  marks-in : from ≤ length t → fl .at .0 ≤ length t
   marks-in h =
       rw (m .flag)
       (consumed-in t (ha .at) 0x30
       (rw (m .hash) (consumed-in t (si .at) 0x23 (rw (m .sign) (sign-in t (al .at) (rw (m .align) (align-in t (place from) h)))))))
 
+  -- and leave room
+  pub marks-room : {at : ℕ} → Room t at → FillTold t at from → Room t (fl .at .0)
+  marks-room r i = record { within = marks-in (i .inside); small = r .small }
+
   -- A SPEC IS WHAT ITS PARTS TELL
-  pub spec-known : {at : ℕ} {w p : Part} {k : Kind} {o : Bool} → FillTold t at from → CountTold t (fl .at .0) w →
+  pub spec-known : {at word : ℕ} {w p : Part} {k : Kind} {o : Bool} → FillTold t at from → WidthTold t (fl .at .0) word w →
       PrecisionTold t (w .end) p → KindTold t (p .end) k → (o ≡ true → AllTold t (fl .ate) (fl .at .0) w p k) →
       SpecKnown t at
       (record {
@@ -116,12 +105,13 @@ module _ {t : List ℕ} {from : ℕ} {al : AlignRead} {si : SignRead} {ha fl : C
         alternate = ha .ate;
         zero = fl .ate;
         from = fl .at .0;
+        word = word;
         width = w;
         precision = p;
         kind = k;
       })
   unfolding formatRead specOf
-  spec-known {w = w} fi wi pr ki all =
+  spec-known fi wi pr ki all =
       record {
         read =
             λ y f n.

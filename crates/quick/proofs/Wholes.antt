@@ -1,33 +1,42 @@
--- A placeholder whose parts are told is the placeholder that is read. Rests on Specs and on `placeholder`'s definition of a placeholder.
-use Prim.Native.Nat.{ℕ, _+_, _≤_, _<_}
-use mathlib.Core.Path.{_≡_, refl, sym}
+-- A placeholder whose parts are told is the placeholder that is read. Rests on Specs, Endings and `closing`'s definition of a placeholder.
+use Prim.Native.Nat.{ℕ, _+_, _≤_}
+use mathlib.Core.Path.{_≡_, refl, sym, _∙_, ap}
 use mathlib.Core.Bool.{Bool, true, false}
 use mathlib.Core.List.{List}
 use native.Mathlib.Omega.{arith}
+use borrow.Author.Tests.{eqb-true, eqb-false}
 use lib.Dec.{eqb}
 use lib.ListN.{length, getD}
 use Rattle.unicode.specs.Choice.{pick}
+use Rattle.unicode.specs.ChoiceLaws.{pick-elim}
 use Rattle.unicode.specs.Chars.{runEnd}
-use Rattle.unicode.specs.CharLaws.{ascii-stop}
-use Rattle.unicode.specs.AsciiLaws.{above-space}
 use Rattle.unicode.specs.Questions.{isSpace}
 use Rattle.frame.specs.Places.{place, rangeOf}
 use Rattle.frame.specs.declared.Frame.{Frame}
-use Rattle.scan.specs.Characters.{spacesPast}
+use Rattle.frame.specs.declared.TextPlace.{TextPlace}
+use Rattle.scan.specs.Characters.{spacesPast, consumed}
+use Rattle.scan.specs.Ends.{spanAcross}
+use Rattle.scan.specs.ScanLaws.{run-in}
 use Rattle.scan.specs.declared.Fault.{Fault}
 use Rattle.placeholder.specs.Arguments.{resolved, joined, argumentRead}
 use Rattle.placeholder.specs.Places.{placed}
 use Rattle.placeholder.specs.Specs.{noSpec, specRead}
-use Rattle.closing.specs.Wholes.{placeholderRead}
 use Rattle.placeholder.specs.declared.Mode.{Mode}
+use Rattle.placeholder.specs.declared.between.ArgumentRead.{ArgumentRead}
 use Rattle.placeholder.specs.declared.format.SpecRead.{SpecRead}
 use Rattle.placeholder.specs.declared.position.Found.{Found}
+use Rattle.closing.specs.Recovery.{because, expectedAt, passedTo}
+use Rattle.closing.specs.Wholes.{wholeOf, missingRead, placeholderRead}
+use Rattle.closing.specs.declared.whole.Closing.{Closing}
+use Rattle.closing.specs.declared.whole.PlaceholderRead.{PlaceholderRead}
+use Rattle.quick.specs.declared.Hint.{Hint}
 use Rattle.quick.specs.declared.Part.{Part}
 use Rattle.quick.specs.declared.SpecTold.{SpecTold}
 use Rattle.quick.specs.declared.Told.{Told}
-use Rattle.quick.specs.Tellings.{foundOf, afterStar, specOf, argumentOf, nextOf, toldRead, Tells}
-use Rattle.quick.specs.PartsTold.{Known, SpecKnown, NoSpec, ClosedAt, PlaceEnds}
-use Rattle.quick.proofs.Bytes.{byte-in, has, lacks}
+use Rattle.quick.specs.Tellings.{foundOf, afterStar, specOf, argumentOf, nextOf, blankFault, blanksOf, hintFault, closingOf, toldRead, Tells}
+use Rattle.quick.specs.PartsTold.{Known, hintOf, onwardOf, SpecKnown, NoSpec, LeftTold, PlaceTold, PlaceEnds}
+use Rattle.quick.proofs.Bytes.{byte-in, has, lacks, run-again}
+use Rattle.quick.proofs.Endings.{recover-told, hint-in}
 
 -- the spec that is told, with its colon
 abbrev pub specTold : List ℕ → Frame → ℕ → Told → SpecRead
@@ -36,20 +45,36 @@ specTold t f n x =
       spec = pick (x .colon) (specOf t f (x .to + 1) n (x .spec)) (noSpec (place (x .to)) n .spec);
       at = place (x .spec .kind .end);
       next = afterStar n (x .spec .precision);
-      width = Fault.Clean;
+      width = blankFault (x .spec .width .blank) (x .spec .from) (x .spec .word);
       precision = Fault.Clean;
-      kind = Fault.Clean;
+      kind = blankFault (x .spec .kind .blank) (x .spec .precision .end) (x .spec .kind .end);
     }
+
+-- the argument that is told, whose place starts at a byte
+abbrev argumentTold : List ℕ → Frame → ℕ → ℕ → Told → ArgumentRead
+argumentTold t f at n x =
+    joined (place at) (place (x .to))
+    (placed (foundOf at (x .place)) (place (x .place .end)) (blankFault (x .place .blank) at (x .place .end)) Fault.Clean)
+    (specTold t f n x)
+    (resolved (foundOf at (x .place)) (afterStar n (x .spec .precision)))
+
+-- how a placeholder whose place is told ends, at a byte: by its closing brace or without one
+pub record Ending (t : List ℕ) (p : Part) (close : ℕ) (closed : Bool) (hint : Hint) (on : ℕ) : Type 0 where
+  pub placed : Known p
+  pub question : getD t close 0 ≡ 0x3F → ⊥
+  pub dot : getD t close 0 ≡ 0x2E → ⊥
+  pub brace : closed ≡ eqb (getD t close 0) 0x7D
+  pub said : hint ≡ hintOf t close
+  pub goes : on ≡ onwardOf closed hint close
 
 -- what a placeholder that is told rests on
 pub record Sound (t : List ℕ) (x : Told) : Type 0 where
-  pub placed : Known (x .place)
   pub spec : (f : Frame) (n : ℕ) → specRead t f Mode.Format (place (x .to)) n ≡ specTold t f n x
-  pub wide : x .spec .width .kind ≤ 2
+  pub wide : x .spec .width .kind ≤ 4
   pub precise : x .spec .precision .kind ≤ 3
-  pub reached : x .to < length t
+  pub inside : x .spec .kind .end ≤ length t
   pub closing : x .close ≡ runEnd isSpace t (x .spec .kind .end)
-  pub brace : getD t (x .close) 0 ≡ 0x7D
+  pub ending : Ending t (x .place) (x .close) (x .closed) (x .hint) (x .on)
 
 -- where a place starts says nothing of the next argument's number
 same-next : (a b n : ℕ) (p : Part) → resolved (foundOf a p) n .next ≡ resolved (foundOf b p) n .next
@@ -63,72 +88,132 @@ same-next a b n p = go (eqb (p .kind) 0) (eqb (p .kind) 1)
     go false true = refl
     go false false = refl
 
+-- what is read at an argument's end
+abbrev readEnd : List ℕ → Frame → TextPlace → ArgumentRead → ℕ → PlaceholderRead
+readEnd t f brace a close =
+    pick (consumed t (place close) 0x7D .ate)
+    (wholeOf t f Mode.Format brace a (Closing.Closed (place close)) (consumed t (place close) 0x7D .at) (a .next))
+    (missingRead t f Mode.Format brace a (place close))
+
+-- and what is told of it
+abbrev toldEnd : List ℕ → Frame → TextPlace → ArgumentRead → ℕ → Bool → Hint → ℕ → PlaceholderRead
+toldEnd t f brace a close closed hint on =
+    let opening = spanAcross t f brace brace in
+    wholeOf t f Mode.Format brace a
+    (pick closed (Closing.Closed (place close))
+    (Closing.Missing
+    (expectedAt t (place close) (because (a .spec .fill) opening))
+    (passedTo (place on) (a .next) (hintFault hint (place close) opening))))
+    (place on)
+    (a .next)
+
+-- they are the same
+end-told : {t : List ℕ} {p : Part} {close : ℕ} {closed : Bool} {hint : Hint} {on : ℕ} → Ending t p close closed hint on →
+    (f : Frame) (brace : TextPlace) (a : ArgumentRead) → readEnd t f brace a close ≡ toldEnd t f brace a close closed hint on
+unfolding missingRead onwardOf pick
+end-told {t} {p} {close} {closed} {hint} {on} e f brace a = go (eqb (getD t close 0) 0x7D) refl
+  where
+    go : (x : Bool) → eqb (getD t close 0) 0x7D ≡ x → readEnd t f brace a close ≡ toldEnd t f brace a close closed hint on
+    go true y =
+        rw (has t close 0x7D (omega arith) (omega arith) (eqb-true (getD t close 0) 0x7D y), e .goes, e .brace, y)
+    go false y =
+        rw (
+          lacks t close 0x7D (omega arith) (omega arith) (eqb-false (getD t close 0) 0x7D y),
+          recover-told t close (spanAcross t f brace brace) f Mode.Format _ _ _ (e .question) (e .dot),
+          e .goes,
+          e .brace,
+          y,
+          e .said,
+        )
+
 module _ {t : List ℕ} {at : ℕ} {x : Told} (e : PlaceEnds t at (x .place) (x .to)) (s : Sound t x) where
   -- the argument that is told is the one that is read
-  argument-told : (f : Frame) (n : ℕ) →
-      argumentRead t f Mode.Format (place at) n ≡
-      joined (place at) (place (x .to)) (placed (foundOf at (x .place)) (place (x .place .end)) Fault.Clean Fault.Clean) (specTold t f n x)
-      (resolved (foundOf at (x .place)) (afterStar n (x .spec .precision)))
+  argument-told : (f : Frame) (n : ℕ) → argumentRead t f Mode.Format (place at) n ≡ argumentTold t f at n x
   unfolding argumentRead spacesPast
-  argument-told f n = rw (e .placed .read (s .placed), ← e .ends, s .spec f n)
+  argument-told f n = rw (e .placed .read (s .ending .placed), ← e .ends, s .spec f n)
 
   -- WHAT IS TOLD IS WHAT IS READ
   told-read : (f : Frame) (brace n : ℕ) → at ≡ brace + 1 →
       placeholderRead t f Mode.Format (place brace) (place at) n ≡ toldRead t f brace n x
-  unfolding placeholderRead spacesPast toldRead argumentOf nextOf pick
+  unfolding placeholderRead spacesPast toldRead argumentOf nextOf blanksOf closingOf
   told-read f brace n q =
       rw (
         argument-told f n,
         ← s .closing,
-        has t (x .close) 0x7D (omega arith) (omega arith) (s .brace),
+        end-told (s .ending) f (place brace) (argumentTold t f at n x),
         same-next 0 at (afterStar n (x .spec .precision)) (x .place),
         q,
       )
+
+-- it ends within the text
+close-in : {t : List ℕ} {x : Told} → Sound t x → x .close ≤ length t
+close-in {t} {x} s = rw (s .closing) (run-in isSpace t (x .spec .kind .end) (s .inside))
+
+-- and reading goes on within it
+on-in : {t : List ℕ} {p : Part} {close : ℕ} {closed : Bool} {hint : Hint} {on : ℕ} → Ending t p close closed hint on → close ≤ length t →
+    on ≤ length t
+unfolding onwardOf
+on-in {t} {close = close} e h =
+    rw (e .goes, e .brace, e .said)
+    (pick-elim (λ (i : ℕ). i ≤ length t) (eqb (getD t close 0) 0x7D)
+    (λ y. let b = eqb-true (getD t close 0) 0x7D y in let l = byte-in t close (omega arith) in omega arith) (λ _. hint-in t close h))
+
+-- a place, and the whitespace after it
+pub place-ends : {t : List ℕ} {at to : ℕ} {p : Part} → PlaceTold t at p → to ≡ runEnd isSpace t (p .end) → PlaceEnds t at p to
+place-ends p e = record { placed = p; ends = e }
 
 -- so it tells, where it says that it does
 pub tells : {t : List ℕ} {at : ℕ} {x : Told} → PlaceEnds t at (x .place) (x .to) → (x .ok ≡ true → Sound t x) → Tells t at x
 tells {t} {at} {x} e s =
     record {
       read = λ y. told-read e (s y);
-      placed = λ y. e .placed .most (s y .placed);
+      placed = λ y. e .placed .most (s y .ending .placed);
       wide = λ y. s y .wide;
       precise = λ y. s y .precise;
-      reached = λ y. s y .reached;
-      closed = λ y. let z = s y in byte-in t (x .close) (omega arith);
+      reached = λ y. rw (e .ends) (run-in isSpace t (x .place .end) (e .placed .inside));
+      closed = λ y. close-in (s y);
+      on = λ y. on-in (s y .ending) (close-in (s y));
     }
 
-module _ {t : List ℕ} {p : Part} {to close : ℕ} {o : Bool} {s : SpecTold} where
+-- the byte at the end tells how it ends
+pub ending : {t : List ℕ} {p : Part} {b close on : ℕ} {o : Bool} {hint : Hint} → b ≡ getD t close 0 → LeftTold b p o → hint ≡ hintOf t close →
+    on ≡ onwardOf (eqb b 0x7D) hint close → Ending t p close (eqb b 0x7D) hint on
+ending q l h g =
+    record {
+      placed = l .placed;
+      question = λ e. l .question (q ∙ e);
+      dot = λ e. l .dot (q ∙ e);
+      brace = ap (λ (i : ℕ). eqb i 0x7D) q;
+      said = h;
+      goes = g;
+    }
+
+module _ {t : List ℕ} {p : Part} {to on : ℕ} {o closed : Bool} {hint : Hint} {s : SpecTold} where
   -- with a colon and a spec
-  pub sound-spec : getD t to 0 ≡ 0x3A → SpecKnown t (to + 1) s → s .ok ≡ true → ClosedAt (getD t close 0) p →
-      close ≡ runEnd isSpace t (s .kind .end) →
-      Sound t (record { ok = o; place = p; to = to; colon = true; spec = s; close = close })
+  pub sound-spec : {close : ℕ} → getD t to 0 ≡ 0x3A → SpecKnown t (to + 1) s → s .ok ≡ true → close ≡ runEnd isSpace t (s .kind .end) →
+      Ending t p close closed hint on →
+      Sound t (record { ok = o; place = p; to = to; colon = true; spec = s; close = close; closed = closed; hint = hint; on = on })
   unfolding specRead pick
-  sound-spec b k y c r =
+  sound-spec b k y r e =
       record {
-        placed = c .placed;
         spec = λ f n. rw (has t to 0x3A (omega arith) (omega arith) b, k .read y f n);
         wide = k .wide y;
         precise = k .precise y;
-        reached = byte-in t to (omega arith);
+        inside = k .inside;
         closing = r;
-        brace = c .brace;
+        ending = e;
       }
 
--- with no colon
-pub sound-bare : {t : List ℕ} {p : Part} {to : ℕ} {o : Bool} {s : SpecTold} → NoSpec to s → ClosedAt (getD t to 0) p →
-    Sound t (record { ok = o; place = p; to = to; colon = false; spec = s; close = to })
-unfolding specRead afterStar pick
-sound-bare {t} {p} {to} k c =
-    let h = byte-in t to (omega (arith, c .brace)) in
-    record {
-      placed = c .placed;
-      spec = λ f n. rw (lacks t to 0x3A (omega arith) (omega arith) (λ q. omega (arith, c .brace)), k .precise, k .ends);
-      wide = omega (arith, k .wide);
-      precise = omega (arith, k .precise);
-      reached = h;
-      closing =
-          rw (k .ends)
-          (sym (ascii-stop isSpace t to h (omega (arith, c .brace))
-          (above-space (getD t to 0) (omega (arith, c .brace)) (omega (arith, c .brace)))));
-      brace = c .brace;
-    }
+  -- with no colon
+  pub sound-bare : {at : ℕ} → (getD t to 0 ≡ 0x3A → ⊥) → NoSpec to s → PlaceEnds t at p to → Ending t p to closed hint on →
+      Sound t (record { ok = o; place = p; to = to; colon = false; spec = s; close = to; closed = closed; hint = hint; on = on })
+  unfolding specRead afterStar blankFault pick
+  sound-bare b k r e =
+      record {
+        spec = λ f n. rw (lacks t to 0x3A (omega arith) (omega arith) b, k .wide, k .precise, k .typed, k .ends);
+        wide = rw (k .wide) (omega arith);
+        precise = rw (k .precise) (omega arith);
+        inside = rw (k .ends, r .ends) (run-in isSpace t (p .end) (r .placed .inside));
+        closing = rw (k .ends, r .ends) (sym (run-again isSpace t (p .end)));
+        ending = e;
+      }

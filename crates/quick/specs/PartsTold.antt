@@ -1,11 +1,11 @@
 -- What each part of the quick lane tells: where it is told, the part's definition in `scan` or `placeholder` is this record. Rests on Tellings.
-use Prim.Native.Nat.{ℕ, _≤_}
+use Prim.Native.Nat.{ℕ, _+_, _≤_}
 use mathlib.Core.Path.{_≡_}
-use mathlib.Core.Bool.{Bool, true}
+use mathlib.Core.Bool.{Bool, true, false}
 use mathlib.Core.List.{List}
-use lib.Dec.{eqb}
+use lib.Dec.{eqb, leb}
 use lib.ListN.{length, getD}
-use Rattle.unicode.specs.Choice.{pick}
+use Rattle.unicode.specs.Choice.{pick, both}
 use Rattle.unicode.specs.Chars.{runEnd}
 use Rattle.unicode.specs.Questions.{isSpace}
 use Rattle.frame.specs.Places.{place, rangeOf}
@@ -15,15 +15,16 @@ use Rattle.scan.specs.Counts.{countRead}
 use Rattle.scan.specs.declared.Fault.{Fault}
 use Rattle.scan.specs.declared.Number.{Number}
 use Rattle.placeholder.specs.Places.{placed, placeRead}
-use Rattle.placeholder.specs.Parts.{fillRead, precisionRead}
+use Rattle.placeholder.specs.Parts.{isImplied, fillRead, precisionRead}
 use Rattle.placeholder.specs.Types.{typeRead}
 use Rattle.placeholder.specs.Format.{formatRead}
 use Rattle.placeholder.specs.declared.Hex.{Hex}
 use Rattle.placeholder.specs.declared.format.SpecRead.{SpecRead}
 use Rattle.quick.specs.declared.Part.{Part}
 use Rattle.quick.specs.declared.Kind.{Kind}
+use Rattle.quick.specs.declared.Hint.{Hint}
 use Rattle.quick.specs.declared.SpecTold.{SpecTold}
-use Rattle.quick.specs.Tellings.{foundOf, countOf, countSpan, fillOf, kindSpan, afterStar, specOf}
+use Rattle.quick.specs.Tellings.{foundOf, countOf, widthOf, countSpan, fillOf, kindSpan, afterStar, specOf, blankFault}
 
 -- a place within a text of at most refusal 3's limit
 pub record Room (t : List ℕ) (at : ℕ) : Type 0 where
@@ -34,6 +35,9 @@ pub record Room (t : List ℕ) (at : ℕ) : Type 0 where
 abbrev pub Known : Part → Type 0
 Known p = p .kind ≡ 9 → ⊥
 
+abbrev pub part : ℕ → ℕ → ℕ → Bool → Part
+part kind value end blank = record { kind = kind; value = value; end = end; blank = blank }
+
 -- a byte that is an align
 unfoldable pub alignByte : ℕ → Bool
 alignByte b = pick (eqb b 0x3C) true (pick (eqb b 0x3E) true (eqb b 0x5E))
@@ -41,6 +45,31 @@ alignByte b = pick (eqb b 0x3C) true (pick (eqb b 0x3E) true (eqb b 0x5E))
 -- a byte after which a spec is at its end: a `}` or a space
 unfoldable pub endsByte : ℕ → Bool
 endsByte b = pick (eqb b 0x7D) true (eqb b 0x20)
+
+-- a word with a first byte, between two bytes of the text, is `_`
+unfoldable pub blankWord : ℕ → ℕ → ℕ → Bool
+blankWord b at end = both (eqb b 0x5F) (eqb end (at + 1))
+
+-- what is said of the sign at a byte, if two characters remain
+unfoldable pub hintOf : List ℕ → ℕ → Hint
+hintOf t at =
+    let b = getD t at 0 in
+    pick (leb (length t) (at + 1)) Hint.Silent
+    (pick (alignByte b) Hint.Misplaced
+    (pick (eqb b 0x2C) Hint.Comma
+    (pick (eqb b 0x2B) Hint.Plus
+    (pick (both (eqb b 0x3D) (eqb (getD t (at + 1) 0) 0x7D)) Hint.Equals Hint.Silent))))
+
+-- where reading goes on after a closing brace, or after a sign
+abbrev pub pastHint : Hint → ℕ → ℕ
+pastHint Hint.Silent at = at
+pastHint Hint.Misplaced at = at + 1
+pastHint Hint.Comma at = at + 1
+pastHint Hint.Plus at = at + 1
+pastHint Hint.Equals at = at + 1
+
+unfoldable pub onwardOf : Bool → Hint → ℕ → ℕ
+onwardOf closed hint at = pick closed (at + 1) (pastHint hint at)
 
 -- the number that starts at a byte
 pub record NumberTold (t : List ℕ) (at : ℕ) (p : Part) : Type 0 where
@@ -51,12 +80,13 @@ pub record NumberTold (t : List ℕ) (at : ℕ) (p : Part) : Type 0 where
         digits = rangeOf (place at) (place (p .end));
         fault = Fault.Clean;
       }
+  pub whole : p .blank ≡ false
   pub inside : p .end ≤ length t
 
 -- the place of an argument
 pub record PlaceTold (t : List ℕ) (at : ℕ) (p : Part) : Type 0 where
   pub most : Known p → p .kind ≤ 2
-  pub read : Known p → placeRead t (place at) ≡ placed (foundOf at p) (place (p .end)) Fault.Clean Fault.Clean
+  pub read : Known p → placeRead t (place at) ≡ placed (foundOf at p) (place (p .end)) (blankFault (p .blank) at (p .end)) Fault.Clean
   pub inside : p .end ≤ length t
 
 -- a fill, which ends at a byte
@@ -64,17 +94,22 @@ pub record FillTold (t : List ℕ) (at past : ℕ) : Type 0 where
   pub read : (f : Frame) → fillRead t f (place at) ≡ record { fill = fillOf t f at past; at = place past }
   pub inside : past ≤ length t
 
--- a count, or none
-pub record CountTold (t : List ℕ) (at : ℕ) (p : Part) : Type 0 where
+-- a count that is there, without a name
+pub record CountGiven (t : List ℕ) (at : ℕ) (p : Part) : Type 0 where
+  pub some : Known p → 1 ≤ p .kind
   pub most : Known p → p .kind ≤ 2
   pub read : Known p → (f : Frame) (n : ℕ) →
       countRead t f (place at) ≡ record { count = countOf n p; at = place (p .end); fault = Fault.Clean }
+  pub whole : p .blank ≡ false
   pub inside : p .end ≤ length t
 
--- a count that is there
-pub record CountGiven (t : List ℕ) (at : ℕ) (p : Part) : Type 0 where
-  pub told : CountTold t at p
-  pub some : Known p → 1 ≤ p .kind
+-- a width, where a word ends at a byte
+pub record WidthTold (t : List ℕ) (at word : ℕ) (p : Part) : Type 0 where
+  pub most : Known p → p .kind ≤ 4
+  pub read : Known p → (f : Frame) (n : ℕ) →
+      countRead t f (place at) ≡ record { count = widthOf t f n at word p; at = place (p .end); fault = blankFault (p .blank) at word }
+  pub spanned : Known p → (f : Frame) (n : ℕ) → isImplied (widthOf t f n at word p) ≡ eqb (p .kind) 0
+  pub inside : p .end ≤ length t
 
 -- a precision with its dot, or none
 pub record PrecisionTold (t : List ℕ) (at : ℕ) (p : Part) : Type 0 where
@@ -97,7 +132,7 @@ pub record KindTold (t : List ℕ) (at : ℕ) (k : Kind) : Type 0 where
         kind = rangeOf (place at) (place (k .end));
         span = kindSpan t f at k;
         at = place (k .end);
-        fault = Fault.Clean;
+        fault = blankFault (k .blank) at (k .end);
       }
   pub inside : k .end ≤ length t
 
@@ -115,28 +150,31 @@ specFound t f at n s =
       spec = specOf t f at n s;
       at = place (s .kind .end);
       next = afterStar n (s .precision);
-      width = Fault.Clean;
+      width = blankFault (s .width .blank) (s .from) (s .word);
       precision = Fault.Clean;
-      kind = Fault.Clean;
+      kind = blankFault (s .kind .blank) (s .precision .end) (s .kind .end);
     }
 
 -- the spec after a colon
 pub record SpecKnown (t : List ℕ) (at : ℕ) (s : SpecTold) : Type 0 where
   pub read : s .ok ≡ true → (f : Frame) (n : ℕ) → formatRead t f (place at) n ≡ specFound t f at n s
-  pub wide : s .ok ≡ true → s .width .kind ≤ 2
+  pub wide : s .ok ≡ true → s .width .kind ≤ 4
   pub precise : s .ok ≡ true → s .precision .kind ≤ 3
   pub inside : s .kind .end ≤ length t
 
 -- no spec, where reading stood
 pub record NoSpec (at : ℕ) (s : SpecTold) : Type 0 where
-  pub wide : s .width .kind ≡ 0
-  pub precise : s .precision .kind ≡ 0
+  pub wide : s .width ≡ part 0 0 at false
+  pub precise : s .precision ≡ part 0 0 at false
+  pub typed : s .kind .blank ≡ false
   pub ends : s .kind .end ≡ at
 
--- a byte that closes a placeholder whose place is told
-pub record ClosedAt (b : ℕ) (p : Part) : Type 0 where
-  pub brace : b ≡ 0x7D
+-- a placeholder whose place and spec are told, and at whose end a byte stands that begins nothing more
+pub record LeftTold (b : ℕ) (p : Part) (spec : Bool) : Type 0 where
+  pub specified : spec ≡ true
   pub placed : Known p
+  pub question : b ≡ 0x3F → ⊥
+  pub dot : b ≡ 0x2E → ⊥
 
 -- a placeholder whose place ends, with the whitespace after it, at a byte
 pub record PlaceEnds (t : List ℕ) (at : ℕ) (p : Part) (to : ℕ) : Type 0 where

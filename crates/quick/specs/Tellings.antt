@@ -1,7 +1,7 @@
--- What the quick lane tells, in the records that `placeholder` reads. A kind of 9, and what is not `ok`, means nothing: it is not told.
-use Prim.Native.Nat.{ℕ, _+_, _≤_, _<_}
+-- What the quick lane tells, in the records that `closing` reads. A kind of 9, and what is not `ok`, means nothing: it is not told.
+use Prim.Native.Nat.{ℕ, _+_, _≤_}
 use mathlib.Core.Path.{_≡_}
-use mathlib.Core.Bool.{true}
+use mathlib.Core.Bool.{Bool, true}
 use mathlib.Core.List.{List}
 use lib.Dec.{eqb}
 use lib.ListN.{length}
@@ -12,13 +12,17 @@ use Rattle.unicode.specs.declared.Seen.the-variants.{Char, End}
 use Rattle.frame.specs.Places.{place, rangeOf}
 use Rattle.frame.specs.Spans.{spanBetween}
 use Rattle.frame.specs.declared.Frame.{Frame}
+use Rattle.frame.specs.declared.Span.{Span}
+use Rattle.frame.specs.declared.TextPlace.{TextPlace}
 use Rattle.scan.specs.Ends.{spanAcross}
 use Rattle.scan.specs.declared.Count.{Count}
+use Rattle.scan.specs.declared.Fault.{Fault}
 use Rattle.placeholder.specs.Arguments.{resolved}
-use Rattle.closing.specs.Recovery.{cleanFaults, textTaken}
+use Rattle.closing.specs.Recovery.{because, expectedAt, passedTo, textTaken}
 use Rattle.placeholder.specs.Specs.{noSpec}
 use Rattle.closing.specs.Wholes.{placeholderRead}
 use Rattle.placeholder.specs.declared.Argument.{Argument}
+use Rattle.placeholder.specs.declared.ArgumentFaults.{ArgumentFaults}
 use Rattle.placeholder.specs.declared.Fill.{Fill}
 use Rattle.placeholder.specs.declared.Hex.{Hex}
 use Rattle.placeholder.specs.declared.MaybeSpan.{MaybeSpan}
@@ -29,6 +33,7 @@ use Rattle.closing.specs.declared.whole.Closing.{Closing}
 use Rattle.closing.specs.declared.whole.PlaceholderRead.{PlaceholderRead}
 use Rattle.quick.specs.declared.Part.{Part}
 use Rattle.quick.specs.declared.Kind.{Kind}
+use Rattle.quick.specs.declared.Hint.{Hint}
 use Rattle.quick.specs.declared.SpecTold.{SpecTold}
 use Rattle.quick.specs.declared.Told.{Told}
 
@@ -46,6 +51,13 @@ countOf n p =
     (pick (eqb (p .kind) 1) (Count.Fixed (p .value))
     (pick (eqb (p .kind) 2) (Count.ByArgument (p .value))
     (Count.ByStar n)))
+
+-- a width that starts at a byte, where a word ends at another: with `$` the word is a name
+unfoldable pub widthOf : List ℕ → Frame → ℕ → ℕ → ℕ → Part → Count
+widthOf t f n from word p =
+    pick (eqb (p .kind) 4)
+    (Count.ByName (rangeOf (place from) (place word)) (spanBetween t f (place from) (place word)))
+    (countOf n p)
 
 -- the span of a count that starts at a byte
 unfoldable pub countSpan : List ℕ → Frame → ℕ → Part → MaybeSpan
@@ -79,7 +91,7 @@ specOf t f at n s =
       alternate = s .alternate;
       zero = s .zero;
       hex = Hex.Absent;
-      width = countOf n (s .width);
+      width = widthOf t f n (s .from) (s .word) (s .width);
       widthspan = countSpan t f (s .from) (s .width);
       precision = countOf n (s .precision);
       precisionspan = countSpan t f (s .width .end) (s .precision);
@@ -94,22 +106,55 @@ argumentOf t f brace n x =
       place = resolved (foundOf (brace + 1) (x .place)) (afterStar n (x .spec .precision)) .place;
       placespan = spanBetween t f (place (brace + 1)) (place (x .to));
       spec = pick (x .colon) (specOf t f (x .to + 1) n (x .spec)) (noSpec (place (x .to)) n .spec);
-      range = rangeOf (place brace) (place (x .close + 1));
+      range = rangeOf (place brace) (place (x .on));
     }
 
 -- the next argument's number after a placeholder: a star's and a place's that is not written are taken
 unfoldable pub nextOf : ℕ → Told → ℕ
 nextOf n x = resolved (foundOf 0 (x .place)) (afterStar n (x .spec .precision)) .next
 
--- the placeholder: closed, and nothing is wrong in it
+-- the word `_`, where it stands between two bytes, is a fault
+unfoldable pub blankFault : Bool → ℕ → ℕ → Fault
+blankFault blank from to = pick blank (Fault.Underscore (rangeOf (place from) (place to))) Fault.Clean
+
+-- what is wrong in the parts of the argument whose place starts at a byte
+unfoldable pub blanksOf : ℕ → Told → ArgumentFaults
+blanksOf at x =
+    record {
+      place = blankFault (x .place .blank) at (x .place .end);
+      raw = Fault.Clean;
+      width = blankFault (x .spec .width .blank) (x .spec .from) (x .spec .word);
+      precision = Fault.Clean;
+      kind = blankFault (x .spec .kind .blank) (x .spec .precision .end) (x .spec .kind .end);
+    }
+
+-- what is said of the sign at a place; the opening brace's span
+abbrev pub hintFault : Hint → TextPlace → Span → Fault
+hintFault Hint.Silent at brace = Fault.Clean
+hintFault Hint.Misplaced at brace = Fault.Misplaced at
+hintFault Hint.Comma at brace = Fault.Comma at brace
+hintFault Hint.Plus at brace = Fault.PlusFirst at
+hintFault Hint.Equals at brace = Fault.Equals at brace
+
+-- how it ends: at its closing brace, or without one and with no word and no field read
+unfoldable pub closingOf : List ℕ → Frame → ℕ → ℕ → Told → Closing
+closingOf t f brace n x =
+    let opening = spanAcross t f (place brace) (place brace) in
+    let why = because (argumentOf t f brace n x .spec .fill) opening in
+    pick (x .closed) (Closing.Closed (place (x .close)))
+    (Closing.Missing
+    (expectedAt t (place (x .close)) why)
+    (passedTo (place (x .on)) (nextOf n x) (hintFault (x .hint) (place (x .close)) opening)))
+
+-- the placeholder
 unfoldable pub toldRead : List ℕ → Frame → ℕ → ℕ → Told → PlaceholderRead
 toldRead t f brace n x =
     record {
       argument = argumentOf t f brace n x;
       text = textTaken Mode.Format (argumentOf t f brace n x .spec .kind);
-      faults = cleanFaults;
-      closing = Closing.Closed (place (x .close));
-      at = place (x .close + 1);
+      faults = blanksOf (brace + 1) x;
+      closing = closingOf t f brace n x;
+      at = place (x .on);
       next = nextOf n x;
     }
 
@@ -117,7 +162,8 @@ toldRead t f brace n x =
 pub record Tells (t : List ℕ) (at : ℕ) (x : Told) : Type 0 where
   pub read : x .ok ≡ true → (f : Frame) (brace n : ℕ) → at ≡ brace + 1 → placeholderRead t f Mode.Format (place brace) (place at) n ≡ toldRead t f brace n x
   pub placed : x .ok ≡ true → x .place .kind ≤ 2
-  pub wide : x .ok ≡ true → x .spec .width .kind ≤ 2
+  pub wide : x .ok ≡ true → x .spec .width .kind ≤ 4
   pub precise : x .ok ≡ true → x .spec .precision .kind ≤ 3
-  pub reached : x .ok ≡ true → x .to < length t
-  pub closed : x .ok ≡ true → x .close < length t
+  pub reached : x .ok ≡ true → x .to ≤ length t
+  pub closed : x .ok ≡ true → x .close ≤ length t
+  pub on : x .ok ≡ true → x .on ≤ length t

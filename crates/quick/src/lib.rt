@@ -1,33 +1,37 @@
-// The quick lane: a closed placeholder of Format mode in which nothing is wrong, told in plain numbers. Whatever it does not tell is left to
-// `placeholder`, and what it tells is what `placeholder` reads.
+// The quick lane: a placeholder of Format mode, told in plain numbers, with the faults that need no more than a look: a word `_`, and a closing brace
+// that is missing. Whatever it does not tell is left to `closing`, and what it tells is what `closing` reads.
 use frame::TextPlace;
 use placeholder::Align;
 use placeholder::Sign;
 use unicode::Seen;
 ghost use mathlib.Core.Path.{_≡_};
 ghost use mathlib.Core.Bool.{true, false};
-ghost use Prim.Native.Nat.{ℕ, _+_};
+ghost use Prim.Native.Nat.{ℕ, _+_, _≤_};
 ghost use lib.ListN.{getD};
 ghost use Rattle.frame.specs.Places.{place};
 ghost use Rattle.scan.specs.Words.{isDigit, wordEnd};
 ghost use Rattle.quick.specs.Tellings.{Tells};
-ghost use Rattle.quick.specs.PartsTold.{Room, alignByte, endsByte, NumberTold, PlaceTold, FillTold, CountTold, CountGiven, PrecisionTold, KindTold, AllTold, SpecKnown, NoSpec, ClosedAt, PlaceEnds};
+ghost use Rattle.quick.specs.PartsTold.{Room, part, alignByte, endsByte, blankWord, hintOf, onwardOf, NumberTold, PlaceTold, FillTold, CountGiven, WidthTold, PrecisionTold, KindTold, AllTold, SpecKnown, NoSpec, LeftTold, PlaceEnds};
 
-// A place or a count. Kind 0: nothing; 1: a number; 2: of a place a word, of a count a number with `$`; 3: a star; 9: it is not told.
+// A place or a count. Kind 0: nothing; 1: a number; 2: of a place a word, of a count a number with `$`; 3: a star; 4: a word with `$`; 9: it is
+// not told. `blank`: the word `_` stands there, which is a fault.
 pub struct Part {
     pub kind: u8,
     pub value: u16,
     pub end: usize,
+    pub blank: bool,
 }
 
-// A type: where it ends, and whether it is a word. Not `ok`: it is not told.
+// A type: where it ends, and whether it is a word, and the word `_`. Not `ok`: it is not told.
 pub struct Kind {
     pub ok: bool,
     pub word: bool,
+    pub blank: bool,
     pub end: usize,
 }
 
-// The spec after a colon: the place after its fill (that of the colon's end where there is none), its marks, where its width starts, and its other parts.
+// The spec after a colon: the place after its fill (that of the colon's end where there is none), its marks, where its width starts and the word
+// there ends, and its other parts.
 pub struct SpecTold {
     pub ok: bool,
     pub fill: usize,
@@ -36,12 +40,23 @@ pub struct SpecTold {
     pub alternate: bool,
     pub zero: bool,
     pub from: usize,
+    pub word: usize,
     pub width: Part,
     pub precision: Part,
     pub kind: Kind,
 }
 
-// A placeholder: its place, where the place ends with the whitespace after it, the spec if a colon stands there, and the closing brace.
+// What is said of a sign where a closing brace was expected.
+pub enum Hint {
+    Silent,
+    Misplaced,
+    Comma,
+    Plus,
+    Equals,
+}
+
+// A placeholder: its place, where the place ends with the whitespace after it, the spec if a colon stands there, where its closing brace stands or is
+// missing, and where reading goes on.
 pub struct Told {
     pub ok: bool,
     pub place: Part,
@@ -49,6 +64,9 @@ pub struct Told {
     pub colon: bool,
     pub spec: SpecTold,
     pub close: usize,
+    pub closed: bool,
+    pub hint: Hint,
+    pub on: usize,
 }
 
 fn is_digit(b: u8) -> bool
@@ -67,11 +85,7 @@ fn number(text: &[u8], at: usize) -> Part
     while i < at + 4 {
         let b = unicode::byte(text, i);
         if !is_digit(b) {
-            return Part {
-                kind: 1,
-                value,
-                end: i,
-            };
+            return plain(1, value, i);
         }
         value = value * 10 + (b - 0x30) as u16;
         i += 1;
@@ -79,31 +93,31 @@ fn number(text: &[u8], at: usize) -> Part
     if is_digit(unicode::byte(text, i)) {
         return untold(i);
     }
+    plain(1, value, i)
+}
+
+// A part in which nothing is wrong.
+fn plain(kind: u8, value: u16, end: usize) -> Part
+    ensures { λ r. ⌜ r ≡ part kind value end false ⌝ }
+{
     Part {
-        kind: 1,
+        kind,
         value,
-        end: i,
+        end,
+        blank: false,
     }
 }
 
 fn untold(at: usize) -> Part
-    ensures { λ r. ⌜ r ≡ record { kind = 9; value = 0; end = at } ⌝ }
+    ensures { λ r. ⌜ r ≡ part 9 0 at false ⌝ }
 {
-    Part {
-        kind: 9,
-        value: 0,
-        end: at,
-    }
+    plain(9, 0, at)
 }
 
 fn nothing(at: usize) -> Part
-    ensures { λ r. ⌜ r ≡ record { kind = 0; value = 0; end = at } ⌝ }
+    ensures { λ r. ⌜ r ≡ part 0 0 at false ⌝ }
 {
-    Part {
-        kind: 0,
-        value: 0,
-        end: at,
-    }
+    plain(0, 0, at)
 }
 
 // Where the word at a place ends.
@@ -122,7 +136,7 @@ fn word_end(text: &[u8], at: usize) -> usize
     end.0
 }
 
-// The place of an argument. The words `_` and `r` are not told.
+// The place of an argument. The word `r` is not told: it may begin a raw name.
 fn place(text: &[u8], at: usize) -> Part
     requires { ⌜ Room (now text) at ⌝ }
     ensures { λ r. ⌜ PlaceTold (now (text .entry)) at r ⌝ }
@@ -136,9 +150,6 @@ fn place(text: &[u8], at: usize) -> Part
         return nothing(at);
     }
     if end == at + 1 {
-        if b == b'_' {
-            return untold(at);
-        }
         if b == b'r' {
             return untold(at);
         }
@@ -147,7 +158,16 @@ fn place(text: &[u8], at: usize) -> Part
         kind: 2,
         value: 0,
         end,
+        blank: is_blank(b, at, end),
     }
+}
+
+// Whether a word, whose first byte is given, is `_`.
+fn is_blank(b: u8, at: usize, end: usize) -> bool
+    requires { ⌜ at ≤ 65535 ⌝ }
+    ensures { λ r. ⌜ r ≡ blankWord b at end ⌝ }
+{
+    if b == b'_' { end == at + 1 } else { false }
 }
 
 fn is_align(b: u8) -> bool
@@ -192,28 +212,38 @@ fn count(text: &[u8], at: usize) -> Part
             kind: 2,
             value: read.value,
             end: read.end + 1,
+            blank: false,
         };
     }
     read
 }
 
-// The width. A word with `$` and the word `_` are not told; another word is left for the type.
-fn width(text: &[u8], at: usize) -> Part
-    requires { ⌜ Room (now text) at ⌝ }
-    ensures { λ r. ⌜ CountTold (now (text .entry)) at r ⌝ }
+// The width. `word` is where the word at `at` ends: with `$` it is a name, without it is left for the type.
+fn width(text: &[u8], at: usize, word: usize) -> Part
+    requires { ⌜ Room (now text) at × (word ≡ wordEnd (now text) (place at) .0) ⌝ }
+    ensures { λ r. ⌜ WidthTold (now (text .entry)) at word r ⌝ }
 {
     let b = unicode::byte(text, at);
     if is_digit(b) {
         return count(text, at);
     }
-    let end = word_end(text, at);
-    if unicode::byte(text, end) == b'$' {
-        return untold(at);
+    let blank = is_blank(b, at, word);
+    if at < word {
+        if unicode::byte(text, word) == b'$' {
+            return Part {
+                kind: 4,
+                value: 0,
+                end: word + 1,
+                blank,
+            };
+        }
     }
-    if b == b'_' {
-        return untold(at);
+    Part {
+        kind: 0,
+        value: 0,
+        end: at,
+        blank,
     }
-    nothing(at)
 }
 
 // The precision with its dot: a star or a number; any other is not told.
@@ -226,11 +256,7 @@ fn precision(text: &[u8], at: usize) -> Part
     }
     let b = unicode::byte(text, at + 1);
     if b == b'*' {
-        return Part {
-            kind: 3,
-            value: 0,
-            end: at + 2,
-        };
+        return plain(3, 0, at + 2);
     }
     if is_digit(b) {
         return count(text, at + 1);
@@ -241,12 +267,13 @@ fn precision(text: &[u8], at: usize) -> Part
 // A sign of a type, `?`, `x` or `X`: alone it is told.
 fn sign_kind(text: &[u8], at: usize) -> Kind
     requires { ⌜ Room (now text) (at + 1) ⌝ }
-    ensures { λ r. ⌜ r ≡ record { ok = endsByte (getD (now (text .entry)) (at + 1) 0); word = false; end = at + 1 } ⌝ }
+    ensures { λ r. ⌜ r ≡ record { ok = endsByte (getD (now (text .entry)) (at + 1) 0); word = false; blank = false; end = at + 1 } ⌝ }
 {
     let after = unicode::byte(text, at + 1);
     Kind {
         ok: ends_spec(after),
         word: false,
+        blank: false,
         end: at + 1,
     }
 }
@@ -261,9 +288,9 @@ fn ends_spec(b: u8) -> bool
     b == b' '
 }
 
-// The type.
-fn kind_at(text: &[u8], at: usize) -> Kind
-    requires { ⌜ Room (now text) at ⌝ }
+// The type. The word at `from` ends at `word`, and is not looked for again.
+fn kind_at(text: &[u8], at: usize, from: usize, word: usize) -> Kind
+    requires { ⌜ Room (now text) at × (word ≡ wordEnd (now text) (place from) .0) ⌝ }
     ensures { λ r. ⌜ KindTold (now (text .entry)) at r ⌝ }
 {
     let b = unicode::byte(text, at);
@@ -276,10 +303,11 @@ fn kind_at(text: &[u8], at: usize) -> Kind
     if b == b'X' {
         return sign_kind(text, at);
     }
-    let end = word_end(text, at);
+    let end = if at == from { word } else { word_end(text, at) };
     Kind {
-        ok: b != b'_',
+        ok: true,
         word: at < end,
+        blank: is_blank(b, at, end),
         end,
     }
 }
@@ -297,9 +325,10 @@ fn spec(text: &[u8], at: usize) -> SpecTold
     let hash = scan::consume(text, signing.at, b'#');
     let flag = scan::consume(text, hash.at, b'0');
     let from = flag.at.0;
-    let width = width(text, from);
+    let word = word_end(text, from);
+    let width = width(text, from, word);
     let precision = precision(text, width.end);
-    let kind = kind_at(text, precision.end);
+    let kind = kind_at(text, precision.end, from, word);
     SpecTold {
         ok: all_told(text, flag.ate, from, width, precision, kind),
         fill,
@@ -308,6 +337,7 @@ fn spec(text: &[u8], at: usize) -> SpecTold
         alternate: hash.ate,
         zero: flag.ate,
         from,
+        word,
         width,
         precision,
         kind,
@@ -344,11 +374,13 @@ fn no_spec(at: usize) -> SpecTold
         alternate: false,
         zero: false,
         from: at,
+        word: at,
         width: nothing(at),
         precision: nothing(at),
         kind: Kind {
             ok: true,
             word: false,
+            blank: false,
             end: at,
         },
     }
@@ -365,20 +397,19 @@ pub fn tell(text: &[u8], at: usize) -> Told
     if b == b':' {
         return with_spec(text, place, to);
     }
+    let closed = b == b'}';
+    let hint = hint_at(text, to);
     Told {
-        ok: told_bare(b, place),
+        ok: is_told(b, place, true),
         place,
         to,
         colon: false,
         spec: no_spec(to),
         close: to,
+        closed,
+        hint,
+        on: onward(closed, hint, to),
     }
-}
-
-fn told_bare(b: u8, place: Part) -> bool
-    ensures { λ r. ⌜ (r ≡ true → ClosedAt b place) ⌝ }
-{
-    if b == b'}' { place.kind != 9 } else { false }
 }
 
 // A placeholder with a colon at `to`.
@@ -389,18 +420,80 @@ fn with_spec(text: &[u8], place: Part, to: usize) -> Told
     let spec = spec(text, to + 1);
     let close = unicode::space_end(text, spec.kind.end);
     let b = unicode::byte(text, close);
+    let closed = b == b'}';
+    let hint = hint_at(text, close);
     Told {
-        ok: told_whole(b, place, spec.ok),
+        ok: is_told(b, place, spec.ok),
         place,
         to,
         colon: true,
         spec,
         close,
+        closed,
+        hint,
+        on: onward(closed, hint, close),
     }
 }
 
-fn told_whole(b: u8, place: Part, ok: bool) -> bool
-    ensures { λ r. ⌜ (r ≡ true → ClosedAt b place × (ok ≡ true)) ⌝ }
+// Whether a placeholder at whose end the byte `b` stands is told. A `?` and a `.` there may begin more.
+fn is_told(b: u8, place: Part, spec: bool) -> bool
+    ensures { λ r. ⌜ (r ≡ true → LeftTold b place spec) ⌝ }
 {
-    if ok { told_bare(b, place) } else { false }
+    if !spec {
+        return false;
+    }
+    if place.kind == 9 {
+        return false;
+    }
+    if b == b'?' {
+        return false;
+    }
+    b != b'.'
+}
+
+// What is said of the sign at a place where a closing brace was expected, if two characters remain.
+fn hint_at(text: &[u8], at: usize) -> Hint
+    requires { ⌜ Room (now text) at ⌝ }
+    ensures { λ r. ⌜ r ≡ hintOf (now (text .entry)) at ⌝ }
+{
+    let b = unicode::byte(text, at);
+    // Most placeholders are closed.
+    if b == b'}' {
+        return Hint::Silent;
+    }
+    if text.len() <= at + 1 {
+        return Hint::Silent;
+    }
+    if is_align(b) {
+        return Hint::Misplaced;
+    }
+    if b == b',' {
+        return Hint::Comma;
+    }
+    if b == b'+' {
+        return Hint::Plus;
+    }
+    if b == b'=' {
+        if unicode::byte(text, at + 1) == b'}' {
+            return Hint::Equals;
+        }
+    }
+    Hint::Silent
+}
+
+// Where reading goes on: after the closing brace, or after a sign of which something is said.
+fn onward(closed: bool, hint: Hint, close: usize) -> usize
+    requires { ⌜ close ≤ 65535 ⌝ }
+    ensures { λ r. ⌜ r ≡ onwardOf closed hint close ⌝ }
+{
+    if closed {
+        return close + 1;
+    }
+    match hint {
+        Hint::Silent => close,
+        Hint::Misplaced => close + 1,
+        Hint::Comma => close + 1,
+        Hint::Plus => close + 1,
+        Hint::Equals => close + 1,
+    }
 }

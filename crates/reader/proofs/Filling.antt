@@ -17,11 +17,6 @@ module _ {A : Type 0} where
   abbrev pub with-one : Bool → List A → A → List A
   with-one front es e = pick front (e ∷ es) (es ++ (e ∷ []))
 
-  pub with-one-length : (front : Bool) (es : List A) (e : A) → length (with-one front es e) ≡ length es + 1
-  unfolding pick
-  with-one-length true es e = sym (add-one (length es))
-  with-one-length false es e = length-append es (e ∷ [])
-
   pub put-front : (es : List A) (n : ℕ) (e : A) {front : Bool} → front ≡ true → put front es n e ≡ inFront es n e
   unfolding put pick
   put-front es n e is = ap (λ (t : Bool). put t es n e) is

@@ -1,6 +1,6 @@
 -- Where a run over a text stands: the records so far, and the turn that says what is left. Together they are the whole list, a turn at a time.
--- Rests on what a turn says (answer's Turns and TurnLaws), and on the laws of a list filled from the front.
-use mathlib.Core.Path.{_≡_, sym, ap, _∙_}
+-- Rests on what a turn says (turns' Turns and TurnLaws), and on the laws of a list filled from the front.
+use mathlib.Core.Path.{_≡_, refl, sym, ap, _∙_}
 use mathlib.Core.Bool.{Bool, true, false}
 use mathlib.Core.List.{List, [], _∷_, _++_, append-nil}
 use Prim.Native.Nat.{ℕ, _+_, _<_, _≤_}
@@ -13,10 +13,11 @@ use Rattle.placeholder.specs.declared.Mode.{Mode}
 use Rattle.reading.specs.Lists.{pieces, errors}
 use Rattle.reading.specs.declared.Piece.{Piece}
 use Rattle.reading.specs.declared.ErrorRecord.{ErrorRecord}
+use Rattle.turns.specs.declared.Cursor.{Cursor}
 use Rattle.turns.specs.declared.PieceTurn.{PieceTurn}
 use Rattle.turns.specs.declared.FaultTurn.{FaultTurn}
 use Rattle.reading.specs.Written.{over}
-use Rattle.turns.specs.Turns.{Fresh, firstCursor, piecesAt, piecesTurn, PieceNext, note, Note, notes, faultsAt, notesTurn, FaultNext, posted}
+use Rattle.turns.specs.Turns.{Fresh, firstCursor, piecesAt, PieceNext, note, Note, notes, faultsAt, FaultNext, posted}
 use Rattle.turns.specs.TurnLaws.{first-pieces, first-faults, posted-length, posted-errors}
 use Rattle.reader.specs.Lent.{FilledBy}
 use Rattle.reader.proofs.Filling.{with-one}
@@ -30,105 +31,108 @@ other : {A : Type 0} {t : Bool} (a b : A) → t ≡ false → pick t a b ≡ b
 unfolding pick
 other a b h = ap (λ (x : Bool). pick x a b) h
 
--- a list that has been filled with all there is
-filled : {A : Type 0} (all es ys : List A) → all ≡ es → FilledBy all ys (over es ys) (length es)
-filled all es ys e = record { count = ap length (sym e); list = ap (λ l. over l ys) (sym e) }
+-- A course of turns: a turn with more has a note, and the next is asked from its key on. Notes are posted to the records so far, one at a time.
+pub record Course (X : Type 0) {Turn Key : Type 0} (more : Turn → Bool) (from : Turn → Key) (first : Key) : Type 1 where
+  pub Note : Type 0
+  pub all : List X
+  pub note : Turn → Note
+  pub at : Key → List Note
+  pub post : List X → List Note → List X
+  pub one : List X → Note → List X
+  pub post-none : (es : List X) → post es [] ≡ es
+  pub post-one : (es : List X) (n : Note) (ns : List Note) → post es (n ∷ ns) ≡ post (one es n) ns
+  pub post-length : (es : List X) (ns : List Note) → length (post es ns) ≡ length es + length ns
+  pub starts : post [] (at first) ≡ all
+  pub Next : Key → Turn → Type 0
+  pub says : (k : Key) (r : Turn) → Next k r → pick (more r) (note r ∷ at (from r)) [] ≡ at k
+  pub Asked : Key → Type 0
+  pub asked : (k : Key) (r : Turn) → Next k r → Asked (from r)
 
-module _ (t : List ℕ) (f : Frame) (m : Mode) where
-  -- PIECES: those so far, then the turn's
-  pub record PieceRun : Type 0 where
-    pub es : List Piece
-    pub turn : PieceTurn
-    pub left : pieces t f m ≡ es ++ piecesTurn t f m turn
-    pub fresh : Fresh (turn .cursor)
+module _ {X Turn Key : Type 0} {more : Turn → Bool} {from : Turn → Key} {first : Key} (c : Course X more from first) where
+  -- the notes that a turn leaves
+  abbrev pub left : Turn → List (c .Note)
+  left r = pick (more r) (c .note r ∷ c .at (from r)) []
 
-  abbrev pub first-piece : (r : PieceTurn) → PieceNext t f m (firstCursor t) r → PieceRun
-  first-piece r next = record { es = []; turn = r; left = sym (next .says ∙ first-pieces t f m); fresh = next .fresh }
+  pub record Run (es : List X) (turn : Turn) : Type 0 where
+    pub whole : c .all ≡ c .post es (left turn)
+    pub fresh : c .Asked (from turn)
 
-  module _ (x : PieceRun) where
-    abbrev pub pieces-left : List Piece
-    pieces-left = piecesTurn t f m (x .turn)
+  pub begun : (r : Turn) → c .Next first r → Run [] r
+  begun r next = record { whole = sym (ap (c .post []) (c .says first r next) ∙ c .starts); fresh = c .asked first r next }
 
-    abbrev turned : List Piece
-    turned = x .turn .piece ∷ piecesAt t f m (x .turn .cursor)
+  -- one record is one more
+  pub one-length : (es : List X) (n : c .Note) → length (c .one es n) ≡ length es + 1
+  one-length es n = ap length (sym (c .post-one es n [] ∙ c .post-none (c .one es n))) ∙ c .post-length es (n ∷ [])
 
-    pub no-piece : x .turn .more ≡ false → (ys : List Piece) → FilledBy (pieces t f m) ys (over (x .es) ys) (length (x .es))
-    no-piece none ys = filled (pieces t f m) (x .es) ys (x .left ∙ ap (λ l. x .es ++ l) (other turned [] none) ∙ append-nil (x .es))
+  module _ {es : List X} {t : Turn} (x : Run es t) where
+    pub ended : more t ≡ false → (ys : List X) → FilledBy (c .all) ys (over es ys) (length es)
+    ended none ys = record { count = ap length (sym is); list = ap (λ l. over l ys) (sym is) }
+      where
+        is : c .all ≡ es
+        is = x .whole ∙ ap (c .post es) (other (c .note t ∷ c .at (from t)) [] none) ∙ c .post-none es
 
-    pub few-pieces : length (x .es) ≤ length (pieces t f m)
-    few-pieces = omega (arith, ap length (x .left), length-append (x .es) pieces-left)
+    pub few : length es ≤ length (c .all)
+    few = omega (arith, ap length (x .whole), c .post-length es (left t))
 
-    module _ (more : x .turn .more ≡ true) where
-      pub piece-room : length (x .es) < length (pieces t f m)
-      piece-room = omega (arith, ap length (x .left), length-append (x .es) pieces-left, ap length (chosen turned [] more))
+    module _ (goes : more t ≡ true) where
+      pub room : length es < length (c .all)
+      room = omega (arith, ap length (x .whole), c .post-length es (left t), ap length (chosen (c .note t ∷ c .at (from t)) [] goes))
 
-      module _ (r : PieceTurn) (next : PieceNext t f m (x .turn .cursor) r) where
-        goes-on : pieces-left ≡ x .turn .piece ∷ piecesTurn t f m r
-        goes-on = chosen turned [] more ∙ ap (λ l. x .turn .piece ∷ l) (sym (next .says))
+      module _ (r : Turn) (next : c .Next (from t) r) where
+        then : left t ≡ c .note t ∷ left r
+        then = chosen (c .note t ∷ c .at (from t)) [] goes ∙ ap (λ l. c .note t ∷ l) (sym (c .says (from t) r next))
 
-        pub piece-left : pieces t f m ≡ (x .es ++ (x .turn .piece ∷ [])) ++ piecesTurn t f m r
-        piece-left = x .left ∙ ap (λ l. x .es ++ l) goes-on ∙ sym (append-snoc (x .es) (x .turn .piece) (piecesTurn t f m r))
+        pub goes-on : Run (c .one es (c .note t)) r
+        goes-on = record { whole = x .whole ∙ ap (c .post es) then ∙ c .post-one es (c .note t) (left r); fresh = c .asked (from t) r next }
 
-        abbrev pub next-piece : PieceRun
-        next-piece = record { es = x .es ++ (x .turn .piece ∷ []); turn = r; left = piece-left; fresh = next .fresh }
+        pub fewer : length (left r) < length (left t)
+        fewer = omega (arith, ap length then)
 
-        pub fewer-pieces : length (piecesTurn t f m r) < length pieces-left
-        fewer-pieces = omega (arith, ap length goes-on)
+-- PIECES: those so far, then the turn's
+abbrev pub piece-course : (t : List ℕ) → Frame → Mode → Course Piece {Turn = PieceTurn} (λ r. r .more) (λ r. r .cursor) (firstCursor t)
+piece-course t f m = record {
+  Note = Piece;
+  all = pieces t f m;
+  note = λ r. r .piece;
+  at = piecesAt t f m;
+  post = λ es ps. es ++ ps;
+  one = λ es p. es ++ (p ∷ []);
+  post-none = append-nil;
+  post-one = λ es p ps. sym (append-snoc es p ps);
+  post-length = length-append;
+  starts = first-pieces t f m;
+  Next = PieceNext t f m;
+  says = λ c r next. next .says;
+  Asked = Fresh;
+  asked = λ c r next. next .fresh;
+}
 
-  -- ERRORS: what posting the turn's notes makes of the records so far
-  pub record FaultRun : Type 0 where
-    pub es : List ErrorRecord
-    pub turn : FaultTurn
-    pub left : errors t f m ≡ posted es (notesTurn t f m turn)
-    pub fresh : Fresh (turn .cursor)
-    pub slots : turn .slot ≤ 13
+-- ERRORS: a turn's record is put in front of those so far, or added at the back. The next is asked from a slot of the step at a cursor on
+abbrev pub Slot : Type 0
+Slot = Cursor × ℕ
 
-  abbrev pub first-fault : (r : FaultTurn) → FaultNext t f m (firstCursor t) 0 r → FaultRun
-  first-fault r next = record {
-    es = [];
-    turn = r;
-    left = sym (ap (posted []) (next .says ∙ ap (notes t f) (first-faults t f m)) ∙ posted-errors t f m);
-    fresh = next .fresh;
-    slots = next .slots;
-  }
+pub posted-none : (es : List ErrorRecord) → posted es [] ≡ es
+unfolding posted
+posted-none es = refl
 
-  module _ (x : FaultRun) where
-    abbrev pub notes-left : List Note
-    notes-left = notesTurn t f m (x .turn)
+pub posted-one : (es : List ErrorRecord) (n : Note) (ns : List Note) → posted es (n ∷ ns) ≡ posted (with-one (n .front) es (n .entry)) ns
+unfolding posted
+posted-one es n ns = refl
 
-    abbrev noted : Note
-    noted = note (x .turn .front) (x .turn .record)
-
-    abbrev noted-on : List Note
-    noted-on = noted ∷ notes t f (faultsAt t f m (x .turn .cursor) (x .turn .slot))
-
-    pub no-fault : x .turn .more ≡ false → (ys : List ErrorRecord) → FilledBy (errors t f m) ys (over (x .es) ys) (length (x .es))
-    unfolding posted
-    no-fault none ys = filled (errors t f m) (x .es) ys (x .left ∙ ap (posted (x .es)) (other noted-on [] none))
-
-    pub few-errors : length (x .es) ≤ length (errors t f m)
-    few-errors = omega (arith, ap length (x .left), posted-length (x .es) notes-left)
-
-    module _ (more : x .turn .more ≡ true) where
-      pub fault-room : length (x .es) < length (errors t f m)
-      fault-room = omega (arith, ap length (x .left), posted-length (x .es) notes-left, ap length (chosen noted-on [] more))
-
-      module _ (r : FaultTurn) (next : FaultNext t f m (x .turn .cursor) (x .turn .slot) r) where
-        noted-next : notes-left ≡ noted ∷ notesTurn t f m r
-        noted-next = chosen noted-on [] more ∙ ap (λ l. noted ∷ l) (sym (next .says))
-
-        pub fault-left : errors t f m ≡ posted (with-one (x .turn .front) (x .es) (x .turn .record)) (notesTurn t f m r)
-        unfolding posted
-        fault-left = x .left ∙ ap (posted (x .es)) noted-next
-
-        abbrev pub next-fault : FaultRun
-        next-fault = record {
-          es = with-one (x .turn .front) (x .es) (x .turn .record);
-          turn = r;
-          left = fault-left;
-          fresh = next .fresh;
-          slots = next .slots;
-        }
-
-        pub fewer-faults : length (notesTurn t f m r) < length notes-left
-        fewer-faults = omega (arith, ap length noted-next)
+abbrev pub fault-course : (t : List ℕ) → Frame → Mode → Course ErrorRecord {Turn = FaultTurn} {Key = Slot} (λ r. r .more) (λ r. (r .cursor, r .slot)) (firstCursor t, 0)
+fault-course t f m = record {
+  Note = Note;
+  all = errors t f m;
+  note = λ r. note (r .front) (r .record);
+  at = λ k. notes t f (faultsAt t f m (k .0) (k .1));
+  post = posted;
+  one = λ es n. with-one (n .front) es (n .entry);
+  post-none = posted-none;
+  post-one = posted-one;
+  post-length = posted-length;
+  starts = ap (λ l. posted [] (notes t f l)) (first-faults t f m) ∙ posted-errors t f m;
+  Next = λ k r. FaultNext t f m (k .0) (k .1) r;
+  says = λ k r next. next .says;
+  Asked = λ k. Fresh (k .0) × (k .1 ≤ 13);
+  asked = λ k r next. (next .fresh, next .slots);
+}

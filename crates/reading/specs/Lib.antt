@@ -8,11 +8,11 @@ pub mod Records
 pub mod Lines
 pub mod LineLaws
 pub mod Lists
+pub mod Written
 pub mod ListLaws
 pub mod OrderLaws
 pub mod PaidLaws
 pub mod RoomLaws
-pub mod Written
 pub mod Texts
 pub mod Bench
 pub mod Examples

@@ -1,7 +1,7 @@
 -- Laws of the four lists: each step's share of them, and their lengths. Rests on Lists and LineLaws.
-use Prim.Native.Nat.{ℕ, suc, _+_}
+use Prim.Native.Nat.{ℕ, suc, _+_, _*_}
 use mathlib.Core.Path.{_≡_, refl, _∙_}
-use mathlib.Core.Bool.{Bool}
+use mathlib.Core.Bool.{Bool, false}
 use mathlib.Core.List.{List, [], _∷_, _++_, append-assoc, append-nil}
 use native.Mathlib.Omega.{arith}
 use lib.ListN.{length, length-append}
@@ -9,12 +9,14 @@ use Rattle.unicode.specs.Choice.{pick}
 use Rattle.unicode.specs.Chars.{Ch}
 use Rattle.frame.specs.Places.{snippet, spanOf}
 use Rattle.frame.specs.declared.Frame.{Frame}
+use Rattle.frame.specs.declared.Span.{Span}
 use Rattle.scan.specs.declared.Fault.{Fault}
 use Rattle.placeholder.specs.declared.Mode.{Mode}
 use Rattle.reading.specs.Records.{isFront}
 use Rattle.reading.specs.Lines.{charsIn, newlines, endedLines, lineStart}
 use Rattle.reading.specs.LineLaws.{by-test, ended-length}
-use Rattle.reading.specs.Lists.{gather, frontOnly, backOnly, reversed, listed, records, faults, errors, textsOf, literalChars, linesIn}
+use Rattle.reading.specs.Lists.{gather, frontOnly, backOnly, reversed, listed, records, faults, errors, places, lines, textsOf, literalChars, linesIn}
+use Rattle.reading.specs.Written.{pairs}
 use Rattle.reading.specs.declared.Step.{Step}
 
 module _ {A B : Type 0} (g : A → List B) where
@@ -86,3 +88,24 @@ lines-length f cs over =
     (omega (arith, length-append (endedLines f first cs) (one ∷ [])))
     (omega (arith, length-append (endedLines f first cs) []))
     over
+
+module _ (t : List ℕ) (f : Frame) (m : Mode) where
+  -- what is no source literal has neither places nor lines
+  pub no-places : f .literal ≡ false → places t f m ≡ []
+  unfolding places pick
+  no-places e = rw e
+
+  pub no-lines : f .literal ≡ false → lines t f m ≡ []
+  unfolding lines pick
+  no-lines e = rw e
+
+-- a list without length is empty
+pub no-length : {A : Type 0} (xs : List A) → length xs ≡ 0 → xs ≡ []
+no-length [] h = refl
+no-length (x ∷ xs) h = absurd (omega arith)
+
+-- a span is two numbers
+pub pairs-length : (xs : List Span) → length (pairs xs) ≡ 2 * length xs
+unfolding pairs
+pairs-length [] = omega arith
+pairs-length (x ∷ xs) = omega (arith, pairs-length xs)

@@ -1,4 +1,4 @@
--- The steps from a state, where the step there is at hand: it, and those that follow where reading goes on. Rests on reading's StepLaws.
+-- The steps from a state, where the step there is at hand: it, and those that follow where reading goes on. Rests on StepLaws.
 use Prim.Native.Nat.{ℕ, zero, suc, _+_, _-_, _≤_, _<_}
 use mathlib.Core.Path.{_≡_, _∙_}
 use mathlib.Core.List.{List, [], _∷_}

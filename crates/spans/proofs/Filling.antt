@@ -1,4 +1,4 @@
--- Spans written over a list of numbers, some and then the rest: one, one after another, none left. Rests on Fills and Exits.
+-- Spans written over a list of numbers, some and then the rest: one, one after another, none left. Rests on Fills, and on reading's Written.
 use Prim.Native.Nat.{ℕ, zero, suc, _+_, _*_, _≤_, _<_}
 use mathlib.Core.Path.{_≡_, refl, sym, ap, _∙_}
 use mathlib.Core.List.{List, [], _∷_, _++_, append-assoc}
@@ -9,14 +9,10 @@ use lib.ListN.{length, take, drop, set, take-append-drop, length-append, length-
 use lib.Seq.{sets-eq, length-take-le, take-at, drop-at, drop-drop}
 use Rattle.frame.specs.declared.Span.{Span}
 use Rattle.reading.specs.Written.{over, pairs}
+use Rattle.reading.specs.ListLaws.{pairs-length}
 use Rattle.spans.specs.Fills.{written, Put}
 
--- two numbers a span
-pub pairs-length : (xs : List Span) → length (pairs xs) ≡ 2 * length xs
-unfolding pairs
-pairs-length [] = omega arith
-pairs-length (x ∷ xs) = omega (arith, pairs-length xs)
-
+-- of joined spans
 pairs-append : (xs ys : List Span) → pairs (xs ++ ys) ≡ pairs xs ++ pairs ys
 unfolding pairs
 pairs-append [] ys = refl

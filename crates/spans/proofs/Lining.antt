@@ -1,14 +1,16 @@
--- The lines of literal text, a character, a part or a step at a time, and those that a reading still has. Rests on Filling, Walk and
--- reading's Lines, LineLaws, Lists and ListLaws.
+-- The lines of literal text, a character, a part or a step at a time, and those that a reading still has. Rests on Filling and
+-- reading's Lines, LineLaws, Lists, ListLaws and WalkLaws.
 use Prim.Native.Nat.{ℕ, _+_, _-_, _*_, _≤_, _<_}
 use mathlib.Core.Path.{_≡_, refl, sym, ap, _∙_}
 use mathlib.Core.Bool.{Bool, true, false}
 use mathlib.Core.List.{List, [], _∷_, _++_, append-assoc, append-nil}
+use native.Mathlib.Nat.{zero-add}
 use native.Mathlib.Omega.{arith}
 use lib.ListN.{length}
 use Rattle.unicode.specs.Choice.{pick}
 use Rattle.unicode.specs.Chars.{Ch}
-use Rattle.frame.specs.Places.{snippet, spanOf}
+use Rattle.frame.specs.Places.{place, spanOf}
+use Rattle.frame.specs.Spans.{toSnippet}
 use Rattle.frame.specs.declared.Frame.{Frame}
 use Rattle.frame.specs.declared.SnippetPlace.{SnippetPlace}
 use Rattle.frame.specs.declared.Span.{Span}
@@ -192,19 +194,11 @@ module _ (t : List ℕ) (f : Frame) where
             (linesAfter (k - 1) (lineStart f (run .line) (stepChars t x)) x (onward (s .next) x)) (lines-some (run .line)) room (p .put))
 
     -- a source literal has all lines still at its start
-    pub lines-all : f .literal ≡ true → lines t f m ≡ linesLeft t f (snippet (f .quote)) (reading t f m)
-    unfolding lines linesIn linesLeft pick
-    lines-all e = rw e
+    pub lines-all : f .literal ≡ true → {first : SnippetPlace} → first ≡ toSnippet f (place 0) →
+        lines t f m ≡ linesLeft t f first (reading t f m)
+    unfolding lines linesIn linesLeft pick toSnippet
+    lines-all e h = rw (e, h, zero-add)
 
     pub places-all : f .literal ≡ true → places t f m ≡ gather (placesOf t f) (reading t f m)
     unfolding places pick
     places-all e = rw e
-
-    -- what is none has neither lines nor places
-    pub no-lines : f .literal ≡ false → lines t f m ≡ []
-    unfolding lines pick
-    no-lines e = rw e
-
-    pub no-places : f .literal ≡ false → places t f m ≡ []
-    unfolding places pick
-    no-places e = rw e

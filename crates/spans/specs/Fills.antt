@@ -1,4 +1,4 @@
--- What the functions that write spans come to, part by part. Rests on Exits and reading's Lines and Lists.
+-- What the functions that write spans come to, part by part. Rests on reading's Lines and Lists.
 use Prim.Native.Nat.{ℕ, _+_, _*_}
 use mathlib.Core.Path.{_≡_}
 use mathlib.Core.Bool.{Bool}

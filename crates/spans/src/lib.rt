@@ -237,7 +237,7 @@ pub fn fill_lines(text: &[u8], frame: Frame, mode: Mode, out: &mut [usize])
         next: 0,
     };
     let mut run = LineRun {
-        line: SnippetPlace(frame.quote),
+        line: frame::to_snippet(frame, TextPlace(0)),
         count: 0,
     };
     let mut left = text.len() + 1;

@@ -1,4 +1,4 @@
--- What one step does to the pieces and the faults that are left at a cursor. Rests on Turns, TurnLaws and Walk.
+-- What one step does to the pieces and the faults that are left at a cursor. Rests on Turns, TurnLaws and reading's WalkLaws.
 use Prim.Native.Nat.{ℕ, zero, suc, _+_, _-_, _*_, _≤_, _<_}
 use mathlib.Core.Path.{_≡_, refl, sym, ap, _∙_}
 use mathlib.Core.Bool.{Bool, true, false, true≢false}

@@ -26,6 +26,11 @@ pub both-right : (a b : Bool) → both a b ≡ true → b ≡ true
 both-right true b t = t
 both-right false b t = absurd (true≢false (sym t))
 
+-- where one does not, not both do
+pub both-false : (a : Bool) → both a false ≡ false
+both-false true = refl
+both-false false = refl
+
 -- the second test is enough
 pub either-true : (a : Bool) → either a true ≡ true
 either-true true = refl

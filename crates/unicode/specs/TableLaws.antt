@@ -10,7 +10,7 @@ use borrow.Author.Tests.{le-leb, lt-leb, leb-true, ltb-true, ltb-false}
 use lib.Dec.{T, leb, ltb, leb→le, ltb→lt}
 use lib.ListN.{length, getD}
 use Rattle.unicode.specs.Choice.{pick, both, either}
-use Rattle.unicode.specs.ChoiceLaws.{either-true}
+use Rattle.unicode.specs.ChoiceLaws.{both-false, either-true}
 use Rattle.unicode.specs.Table.{member, ascending, clear, apart, held, inside}
 
 -- the start of range k
@@ -112,10 +112,6 @@ found [] c k h l u = absurd (omega arith)
 found (x ∷ []) c k h l u = absurd (omega arith)
 found (lo ∷ hi ∷ r) c zero h l u = simp (le-leb lo c l, le-leb c hi u)
 found (lo ∷ hi ∷ r) c (suc k) h l u = simp (found r c k (le-of-suc-le-suc h) l u, either-true)
-
-both-false : (a : Bool) → both a false ≡ false
-both-false true = refl
-both-false false = refl
 
 -- the first range misses c where c lies before it or past it
 skipped : (lo hi : ℕ) (r : List ℕ) (c : ℕ) → (c < lo) ⊎ (hi < c) → member (lo ∷ hi ∷ r) c ≡ member r c

@@ -102,7 +102,7 @@ second-in : (b : ℕ) {c lo hi : ℕ} → low b ≡ lo → high b ≡ hi → In 
 second-in b l h i = rw (l, h) (within-in i)
 
 -- the sequence by the first byte's range and the later bytes' tests
-sequence1 : (b c d e : ℕ) → b < 0x80 → sequenceOf b c d e ≡ seq b 1
+pub sequence1 : (b c d e : ℕ) → b < 0x80 → sequenceOf b c d e ≡ seq b 1
 unfolding sequenceOf pick
 sequence1 b c d e u = simp (lt-ltb b 0x80 u)
 

@@ -124,3 +124,14 @@ unfoldable pub errorWords : ErrorRecord → List ℕ
 errorWords e =
     four (e .kind) (lowOf (e .span .start .0)) (lowOf (e .span .end .0)) 0 ++
     (spanWords 0 (e .second) ++ (rangeWords (e .quoted) ++ spanWords 0 (e .suggestion)))
+
+-- a record of a kind and a span alone
+abbrev pub bareError : ℕ → Span → ErrorRecord
+bareError kind span =
+    record {
+      kind = kind;
+      span = span;
+      second = MaybeSpan.Absent;
+      quoted = MaybeRange.Absent;
+      suggestion = MaybeSpan.Absent;
+    }

@@ -16,7 +16,7 @@ ghost use Prim.Native.Nat.{_+_, _*_, _≤_};
 ghost use lib.ListN.{length};
 ghost use Rattle.frame.specs.Places.{place, rangeOf};
 ghost use Rattle.words.specs.Laid.{laid};
-ghost use Rattle.words.specs.Layout.{lowOf, four, bitOf, alignOf, signOf, hexOf, placeTag, placeWords, fillWords, spanWords, countData, nameSpanEnd, countWords, rangeWords, argumentWords, zeros, literalWords, errorWords};
+ghost use Rattle.words.specs.Layout.{lowOf, four, bitOf, alignOf, signOf, hexOf, placeTag, placeWords, fillWords, spanWords, countData, nameSpanEnd, countWords, rangeWords, argumentWords, zeros, literalWords, errorWords, bareError};
 
 // A number's low 32 bits. No place, span or argument number of a reading has more.
 pub fn low(x: usize) -> u32
@@ -268,4 +268,23 @@ pub fn put_error(out: &mut [u32], n: usize, record: ErrorRecord)
     put_span(&mut *out, k + 4, 0, second);
     put_range(&mut *out, k + 8, quoted);
     put_span(out, k + 12, 0, suggestion);
+}
+
+// The n-th error record, where it has a kind and a span alone.
+pub fn put_bare_error(out: &mut [u32], n: usize, kind: u8, span: Span)
+    requires { ⌜ 16 * n + 16 ≤ length (now out) ⌝ }
+    ensures { λ _. ⌜ now (out .exit) ≡ laid (now (out .entry)) (16 * n) (errorWords (bareError kind span)) ⌝ }
+{
+    let k = 16 * n;
+    put4(
+        &mut *out,
+        k,
+        kind as u32,
+        low(span.start.0),
+        low(span.end.0),
+        0,
+    );
+    put4(&mut *out, k + 4, 0, 0, 0, 0);
+    put4(&mut *out, k + 8, 0, 0, 0, 0);
+    put4(out, k + 12, 0, 0, 0, 0);
 }

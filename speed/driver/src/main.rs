@@ -76,7 +76,15 @@ fn measured(text: &Text, reader: &mut Reader, rounds: usize, calls: usize) -> (f
     (ours, rust, reads.then_some(cpp), sum)
 }
 
-/// Large texts, in nanoseconds a byte, and how much longer twice the text takes.
+/// The reader by itself: what the others leave in the caches would count against the larger text.
+fn alone(text: &Text, reader: &mut Reader) -> f64 {
+    let [ours] = quickest(ROUNDS, 1, [&mut || {
+        black_box(reader.read(black_box(&text.bytes)));
+    }]);
+    ours
+}
+
+/// Large texts, in nanoseconds a byte, and how much longer the reader by itself takes for twice the text.
 fn large_texts(reader: &mut Reader) {
     println!("| text, ns a byte | this | the Rust | {{fmt}} | sum of bytes | the Rust : this | twice the text |");
     println!("|---|---|---|---|---|---|---|");
@@ -84,8 +92,8 @@ fn large_texts(reader: &mut Reader) {
         // The Rust takes seconds for a large text with errors at the front.
         let rounds = if text.name == "errors at the front" { 1 } else { ROUNDS };
         let (ours, rust, cpp, sum) = measured(text, reader, rounds, 1);
-        let (first, ..) = measured(&half, reader, rounds, 1);
-        row(text.name, text.bytes.len() as f64, ours, rust, cpp, sum, Some(ours / first));
+        let doubled = alone(text, reader) / alone(&half, reader);
+        row(text.name, text.bytes.len() as f64, ours, rust, cpp, sum, Some(doubled));
     }
     let text = texts::broken(SIZE);
     assert_eq!(reader.read(&text.bytes).0, 4);

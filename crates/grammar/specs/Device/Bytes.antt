@@ -12,7 +12,7 @@ use Rattle.unicode.specs.Choice.{pick, within}
 use Rattle.unicode.specs.ChoiceLaws.{pick-elim}
 use Rattle.unicode.specs.Utf8.{low, high, seq, code2, code3, code4, sequenceOf, sequenceAt, charOf, decode, peekAt, validPrefix}
 use Rattle.unicode.specs.DecodeLaws.{decode-sequence}
-use Rattle.unicode.specs.Utf8Laws.{validEnd, valid-all, valid-on, valid-end}
+use Rattle.unicode.specs.Utf8Laws.{sequence1, validEnd, valid-all, valid-on, valid-end}
 use Rattle.unicode.specs.Chars.{Ch, charsFrom}
 use Rattle.unicode.specs.Encode.{encode, encodeAll}
 use Rattle.unicode.specs.EncodeLaws.{encoded}
@@ -23,10 +23,6 @@ use Rattle.grammar.specs.Pieces.{wide}
 use Rattle.grammar.specs.Device.Stands.{wide-some, Stands}
 
 -- THE SEQUENCE that four bytes begin with, by the first byte's range, where there is one
-sequence1 : (b c d e : ℕ) → b < 0x80 → sequenceOf b c d e ≡ seq b 1
-unfolding sequenceOf pick
-sequence1 b c d e h = rw (lt-ltb b 0x80 h)
-
 sequence2 : (b c d e : ℕ) → 0xC2 ≤ b → b < 0xE0 → (sequenceOf b c d e .width ≡ 0 → ⊥) → sequenceOf b c d e ≡ seq (code2 b c) 2
 unfolding sequenceOf
 sequence2 b c d e l u =

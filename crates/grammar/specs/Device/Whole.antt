@@ -10,7 +10,7 @@ use Rattle.placeholder.specs.declared.Mode.{Mode}
 use Rattle.reading.specs.Steps.{stepAt, onward, follow, stepsFrom}
 use Rattle.reading.specs.Faults.{stepSlots, wrong as wrongOnes, faultsOf}
 use Rattle.reading.specs.Lists.{gather, piecesOf, faults, errors}
-use Rattle.reading.specs.ListLaws.{errors-length}
+use Rattle.reading.specs.ListLaws.{no-length, errors-length}
 use Rattle.reading.specs.declared.State.{State}
 use Rattle.reading.specs.declared.Step.{Step as ReadStep}
 use Rattle.grammar.specs.Grammar.{Element}
@@ -30,10 +30,6 @@ append-none [] ys h = (refl, h)
 append-none (x ∷ xs) ys h = absurd (never h)
 
 -- NO ERROR IS RECORDED exactly where nothing is wrong: there are as many of the one as of the other
-no-length : {A : Type 0} (xs : List A) → length xs ≡ 0 → xs ≡ []
-no-length [] h = refl
-no-length (x ∷ xs) h = absurd (omega arith)
-
 pub errors-faults : (t : List ℕ) (f : Frame) (m : Mode) → errors t f m ≡ [] → faults t f m ≡ []
 errors-faults t f m h = no-length (faults t f m) (sym (errors-length t f m) ∙ ap length h)
 

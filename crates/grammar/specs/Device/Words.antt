@@ -9,6 +9,7 @@ use native.Mathlib.Omega.{arith}
 use borrow.Author.Tests.{eq-eqb, ne-eqb, leb-true, leb-false, lt-ltb, le-ltb}
 use lib.Dec.{eqb, leb, ltb}
 use Rattle.unicode.specs.Choice.{pick, both}
+use Rattle.unicode.specs.ChoiceLaws.{both-false}
 use Rattle.unicode.specs.Chars.{charsFrom, takeWhile, runEnd}
 use Rattle.unicode.specs.Questions.{isStart, isContinue}
 use Rattle.frame.specs.Places.{place, rangeOf}
@@ -30,10 +31,6 @@ use Rattle.grammar.specs.Pieces.{wide, size, IsWidth}
 use Rattle.grammar.specs.Device.Runs.{caseB, takeW, dropW, Stops, take-drop}
 use Rattle.grammar.specs.Device.Parser.{Got, okNumber, okWord, numberOf, nameOf, widthOf}
 use Rattle.grammar.specs.Device.Stands.{mark-wide, wide-some, Stands, run-none, stands-past, stands-end, chars, run-chars, run-place, is-at, consume-yes, consume-no, past-ascii}
-
-both-false : (b : Bool) → both b false ≡ false
-both-false true = refl
-both-false false = refl
 
 pick-not : {A : Type 0} (b : Bool) (x y : A) → pick (not b) x y ≡ pick b y x
 unfolding pick

@@ -1,6 +1,7 @@
--- `quick::kind_at` meets its contract: a sign after which the spec ends, a word, or nothing.
+-- `quick::kind_at` meets its contract: a sign after which the spec ends, a word, or nothing. The word at `from` is the one that was found.
 use borrow.Author.Needs.{needs}
 use mathlib.Core.Path.{sym, _∙_}
+use mathlib.Core.Logic.{⊎-elim}
 use native.Mathlib.Omega.{arith}
 use Rattle.quick.proofs.Bytes.{room-past}
 use Rattle.quick.proofs.Parts.{kind-debug, kind-lower, kind-upper, kind-word}
@@ -12,21 +13,21 @@ byte-requires c κs = search needs
 
 sign-kind-requires : tie.Need-sign-kind-requires
 sign-kind-requires c κs =
-    let b = c .before in room-past (b .before .before .pre) (sym (b .byte .ensures) ∙ c .if1 .taken) (omega arith)
+    let b = c .before in room-past (b .before .before .pre .0) (sym (b .byte .ensures) ∙ c .if1 .taken) (omega arith)
 
 returns : tie.Need-returns
 returns c = rw (c .sign-kind .ensures) (kind-debug (sym (c .before .before .byte .ensures) ∙ c .before .if1 .taken))
 
 sign-kind-requires-2 : tie.Need-sign-kind-requires-2
 sign-kind-requires-2 c κs =
-    let b = c .before .before in room-past (b .before .before .pre) (sym (b .byte .ensures) ∙ c .if2 .taken) (omega arith)
+    let b = c .before .before in room-past (b .before .before .pre .0) (sym (b .byte .ensures) ∙ c .if2 .taken) (omega arith)
 
 returns-2 : tie.Need-returns-2
 returns-2 c = rw (c .sign-kind2 .ensures) (kind-lower (sym (c .before .before .before .byte .ensures) ∙ c .before .if2 .taken))
 
 sign-kind-requires-3 : tie.Need-sign-kind-requires-3
 sign-kind-requires-3 c κs =
-    let b = c .before .before .before in room-past (b .before .before .pre) (sym (b .byte .ensures) ∙ c .if3 .taken) (omega arith)
+    let b = c .before .before .before in room-past (b .before .before .pre .0) (sym (b .byte .ensures) ∙ c .if3 .taken) (omega arith)
 
 returns-3 : tie.Need-returns-3
 returns-3 c = rw (c .sign-kind3 .ensures) (kind-upper (sym (c .before .before .before .before .byte .ensures) ∙ c .before .if3 .taken))
@@ -34,13 +35,19 @@ returns-3 c = rw (c .sign-kind3 .ensures) (kind-upper (sym (c .before .before .b
 word-end-requires : tie.Need-word-end-requires
 word-end-requires c κs = search needs
 
+is-blank-requires : tie.Need-is-blank-requires
+is-blank-requires c κs = search needs
+
 returns-4 : tie.Need-returns-4
 returns-4 c =
-    let i = c .before .before .before in
+    let j = c .before in
+    let i = j .before .before .before in
     let e = i .before .byte .ensures in
-    rw e
-    (kind-word (λ q. i .if1 .left (e ∙ q)) (λ q. c .before .before .if2 .left (e ∙ q)) (λ q. c .before .if3 .left (e ∙ q)) (c .word-end .ensures)
-    (i .before .before .before .pre .within))
+    let p = i .before .before .before .pre in
+    rw (c .is-blank .ensures, e)
+    (kind-word (λ q. i .if1 .left (e ∙ q)) (λ q. j .before .before .if2 .left (e ∙ q)) (λ q. j .before .if3 .left (e ∙ q))
+    (⊎-elim (λ w. rw (w .0 .taken) (w .1 ∙ p .1)) (λ w. w .2 ∙ w .1 .ensures) (j .if4 .came))
+    (p .0 .within))
 
 pub kind-at-spec : {M : Type 1} → statement M
 kind-at-spec =
@@ -54,4 +61,5 @@ kind-at-spec =
     sign-kind-requires-3
     returns-3
     word-end-requires
+    is-blank-requires
     returns-4)

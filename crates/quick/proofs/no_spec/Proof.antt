@@ -1,7 +1,6 @@
 -- `quick::no_spec` meets its contract: its counts are nothing, and its type is empty where reading stood.
 use borrow.Author.Needs.{needs}
-use mathlib.Core.Path.{refl, ap}
-use Rattle.quick.specs.declared.Part.{Part}
+use mathlib.Core.Path.{refl}
 use Rattle.quick.proofs.no_spec.Statement.{statement}
 use Rattle.quick.proofs.no_spec.Tie as tie
 
@@ -14,8 +13,9 @@ nothing-requires-2 c κs = search needs
 returns : tie.Need-returns
 returns c =
     record {
-      wide = ap (λ (p : Part). p .kind) (c .before .nothing .ensures);
-      precise = ap (λ (p : Part). p .kind) (c .nothing2 .ensures);
+      wide = c .before .nothing .ensures;
+      precise = c .nothing2 .ensures;
+      typed = refl;
       ends = refl;
     }
 

@@ -29,11 +29,15 @@ byte-requires c κs = search needs
 is-digit-requires : tie.Need-is-digit-requires Inv-loop μ-loop
 is-digit-requires c κs = search needs
 
+plain-requires : tie.Need-plain-requires Inv-loop μ-loop
+plain-requires c κs = search needs
+
 returns : tie.Need-returns Inv-loop μ-loop
 returns c =
-    let b = c .before .before in
-    spelt-stop (b .before .before .loop .inv) (b .before .before .before .before .pre .1)
-    (ap isDigit (sym (b .byte .ensures)) ∙ sym (c .before .is-digit .ensures) ∙ not-true _ (c .if1 .taken))
+    let b = c .before .before .before in
+    rw (c .plain .ensures)
+    (spelt-stop (b .before .before .loop .inv) (b .before .before .before .before .pre .1)
+    (ap isDigit (sym (b .byte .ensures)) ∙ sym (c .before .before .is-digit .ensures) ∙ not-true _ (c .before .if1 .taken)))
 
 mul-value : tie.Need-mul-value Inv-loop μ-loop
 mul-value c =
@@ -81,14 +85,19 @@ returns-2 c =
     (record {
       one = λ n. absurd (n refl);
       read = λ n. absurd (n refl);
+      whole = refl;
       inside = c .before .before .before .before .before .loop .inv .inside;
     })
 
+plain-requires-2 : tie.Need-plain-requires-2 Inv-loop μ-loop
+plain-requires-2 c κs = search needs
+
 returns-3 : tie.Need-returns-3 Inv-loop μ-loop
 returns-3 c =
-    let b = c .before .before in
-    spelt-stop (b .before .before .loop .inv) (b .before .before .before .before .pre .1)
-    (ap isDigit (sym (b .byte2 .ensures)) ∙ sym (c .before .is-digit2 .ensures) ∙ c .if2 .left)
+    let b = c .before .before .before in
+    rw (c .plain2 .ensures)
+    (spelt-stop (b .before .before .loop .inv) (b .before .before .before .before .pre .1)
+    (ap isDigit (sym (b .byte2 .ensures)) ∙ sym (c .before .before .is-digit2 .ensures) ∙ c .before .if2 .left))
 
 pub number-spec : {M : Type 1} → statement M
 number-spec =
@@ -100,6 +109,7 @@ number-spec =
     add-loop
     byte-requires
     is-digit-requires
+    plain-requires
     returns
     mul-value
     sub-value
@@ -112,4 +122,5 @@ number-spec =
     is-digit-requires-2
     untold-requires
     returns-2
+    plain-requires-2
     returns-3)

@@ -1,6 +1,7 @@
--- `quick::place` meets its contract: a number, a word that is neither `_` nor `r`, or nothing.
+-- `quick::place` meets its contract: a number, a word that is not `r`, or nothing.
 use borrow.Author.Needs.{needs}
 use mathlib.Core.Path.{sym, _∙_, ap}
+use mathlib.Core.Logic.{⊎-elim}
 use Rattle.scan.specs.Words.{isDigit}
 use Rattle.quick.proofs.Parts.{place-unknown, place-number, place-nothing, place-word}
 use Rattle.quick.proofs.place.Statement.{statement}
@@ -45,28 +46,17 @@ returns-3 c =
     let d = c .before .before .before .before .before .before in
     rw (c .untold .ensures) (place-unknown (d .before .before .before .pre .within))
 
-untold-requires-2 : tie.Need-untold-requires-2
-untold-requires-2 c κs = search needs
+is-blank-requires : tie.Need-is-blank-requires
+is-blank-requires c κs = search needs
 
 returns-4 : tie.Need-returns-4
 returns-4 c =
-    let d = c .before .before .before .before .before .before .before in
-    rw (c .untold2 .ensures) (place-unknown (d .before .before .before .pre .within))
-
-returns-5 : tie.Need-returns-5
-returns-5 c =
-    let w = c .before .before .before .before in
+    let w = c .before .before .before in
     let d = w .before .before in
     let e = d .before .byte .ensures in
-    place-word (ap isDigit (sym e) ∙ sym (d .is-digit .ensures) ∙ w .before .if1 .left) (w .word-end .ensures) (c .before .before .before .if2 .left)
-    (λ _ b. c .before .if4 .left (e ∙ b)) (λ _ b. c .if5 .left (e ∙ b)) (d .before .before .before .pre .within)
-
-returns-6 : tie.Need-returns-6
-returns-6 c =
-    let w = c .before .before in
-    let d = w .before .before in
-    place-word (ap isDigit (sym (d .before .byte .ensures)) ∙ sym (d .is-digit .ensures) ∙ w .before .if1 .left) (w .word-end .ensures) (c .before .if2 .left)
-    (λ q _. c .if3 .left q) (λ q _. c .if3 .left q) (d .before .before .before .pre .within)
+    rw (c .is-blank .ensures, e)
+    (place-word (ap isDigit (sym e) ∙ sym (d .is-digit .ensures) ∙ w .before .if1 .left) (w .word-end .ensures) (c .before .before .if2 .left)
+    (⊎-elim (λ x _ b. x .1 .left (e ∙ b)) (λ x q _. x .left q) (c .before .if3 .came)) (d .before .before .before .pre .within))
 
 pub place-spec : {M : Type 1} → statement M
 place-spec =
@@ -82,7 +72,5 @@ place-spec =
     add-if3
     untold-requires
     returns-3
-    untold-requires-2
-    returns-4
-    returns-5
-    returns-6)
+    is-blank-requires
+    returns-4)

@@ -25,13 +25,17 @@ add-byte c = search needs
 byte-requires-2 : tie.Need-byte-requires-2
 byte-requires-2 c κs = search needs
 
-add-t7 : tie.Need-add-t7
-add-t7 c = search needs
+add-plain : tie.Need-add-plain
+add-plain c = search needs
+
+plain-requires : tie.Need-plain-requires
+plain-requires c κs = search needs
 
 returns-2 : tie.Need-returns-2
 returns-2 c =
-    let i = c .before .before in
-    precision-star (sym (i .before .byte .ensures) ∙ i .if1 .left) (sym (c .before .byte2 .ensures) ∙ c .if2 .taken)
+    let i = c .before .before .before in
+    rw (c .plain .ensures)
+    (precision-star (sym (i .before .byte .ensures) ∙ i .if1 .left) (sym (c .before .before .byte2 .ensures) ∙ c .before .if2 .taken))
 
 is-digit-requires : tie.Need-is-digit-requires
 is-digit-requires c κs = search needs
@@ -70,7 +74,8 @@ precision-spec =
     returns
     add-byte
     byte-requires-2
-    add-t7
+    add-plain
+    plain-requires
     returns-2
     is-digit-requires
     add-count

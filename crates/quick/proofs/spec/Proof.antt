@@ -1,6 +1,6 @@
 -- `quick::spec` meets its contract: it is the definition, part by part, each from where the one before it stood.
 use borrow.Author.Needs.{needs}
-use Rattle.quick.proofs.Specs.{marks, marks-in, spec-known}
+use Rattle.quick.proofs.Specs.{marks, marks-room, spec-known}
 use Rattle.quick.proofs.spec.Statement.{statement}
 use Rattle.quick.proofs.spec.Tie as tie
 
@@ -19,18 +19,28 @@ consume-requires c κs = search needs
 consume-requires-2 : tie.Need-consume-requires-2
 consume-requires-2 c κs = search needs
 
-width-requires : tie.Need-width-requires
-width-requires c κs =
+word-end-requires : tie.Need-word-end-requires
+word-end-requires c κs =
     let al = c .before .before .before in
     let fi = al .before in
     let m = marks (al .read-align .ensures) (c .before .before .read-sign .ensures) (c .before .consume .ensures) (c .consume2 .ensures) in
-    record { within = marks-in m (fi .fill-end .ensures .inside); small = fi .before .before .pre .small }
+    marks-room m (fi .before .before .pre) (fi .fill-end .ensures)
+
+width-requires : tie.Need-width-requires
+width-requires c κs =
+    let fl = c .before in
+    let al = fl .before .before .before in
+    let fi = al .before in
+    let m = marks (al .read-align .ensures) (fl .before .before .read-sign .ensures) (fl .before .consume .ensures) (fl .consume2 .ensures) in
+    (marks-room m (fi .before .before .pre) (fi .fill-end .ensures), c .word-end .ensures)
 
 precision-requires : tie.Need-precision-requires
 precision-requires c κs = search needs
 
 kind-at-requires : tie.Need-kind-at-requires
-kind-at-requires c κs = search needs
+kind-at-requires c κs =
+    let w = c .before .before in
+    (record { within = c .precision .ensures .inside; small = w .before .before .before .before .before .before .before .pre .small }, w .word-end .ensures)
 
 all-told-requires : tie.Need-all-told-requires
 all-told-requires c κs = search needs
@@ -38,8 +48,8 @@ all-told-requires c κs = search needs
 returns : tie.Need-returns
 returns c =
     let wi = c .before .before .before in
-    let ha = wi .before .before in
-    let m = marks (ha .before .before .read-align .ensures) (ha .before .read-sign .ensures) (ha .consume .ensures) (wi .before .consume2 .ensures) in
+    let ha = wi .before .before .before in
+    let m = marks (ha .before .before .read-align .ensures) (ha .before .read-sign .ensures) (ha .consume .ensures) (wi .before .before .consume2 .ensures) in
     spec-known m (ha .before .before .before .fill-end .ensures) (wi .width .ensures) (c .before .before .precision .ensures)
     (c .before .kind-at .ensures) (c .all-told .ensures)
 
@@ -52,6 +62,7 @@ spec-spec =
     read-sign-requires
     consume-requires
     consume-requires-2
+    word-end-requires
     width-requires
     precision-requires
     kind-at-requires

@@ -1,9 +1,9 @@
--- `quick::tell` meets its contract: the place, whitespace, and then a colon with its spec or the closing brace.
+-- `quick::tell` meets its contract: the place, whitespace, and then a colon with its spec or the end.
 use borrow.Author.Needs.{needs}
 use mathlib.Core.Path.{sym, _∙_}
 use native.Mathlib.Omega.{arith}
-use Rattle.quick.proofs.Bytes.{room-at}
-use Rattle.quick.proofs.Wholes.{tells, sound-bare}
+use Rattle.quick.proofs.Bytes.{room-spaces}
+use Rattle.quick.proofs.Wholes.{place-ends, tells, ending, sound-bare}
 use Rattle.quick.proofs.tell.Statement.{statement}
 use Rattle.quick.proofs.tell.Tie as tie
 
@@ -18,26 +18,43 @@ byte-requires c κs = search needs
 
 with-spec-requires : tie.Need-with-spec-requires
 with-spec-requires c κs =
-    let b = sym (c .before .byte .ensures) ∙ c .if1 .taken in
-    (room-at (c .before .before .before .before .before .pre .small) b (omega arith), b)
+    let sp = c .before .before in (
+      room-spaces (sp .before .before .before .pre .small) (sp .before .place .ensures .inside) (sp .space-end .ensures),
+      sym (c .before .byte .ensures) ∙ c .if1 .taken,
+    )
 
 returns : tie.Need-returns
 returns c =
     let sp = c .before .before .before in
-    c .with-spec .ensures _ (record { placed = sp .before .place .ensures; ends = sp .space-end .ensures })
+    c .with-spec .ensures _ (place-ends (sp .before .place .ensures) (sp .space-end .ensures))
 
-told-bare-requires : tie.Need-told-bare-requires
-told-bare-requires c κs = search needs
+hint-at-requires : tie.Need-hint-at-requires
+hint-at-requires c κs =
+    let sp = c .before .before in
+    room-spaces (sp .before .before .before .pre .small) (sp .before .place .ensures .inside) (sp .space-end .ensures)
+
+is-told-requires : tie.Need-is-told-requires
+is-told-requires c κs = search needs
 
 no-spec-requires : tie.Need-no-spec-requires
 no-spec-requires c κs = search needs
 
+onward-requires : tie.Need-onward-requires
+onward-requires c κs =
+    let sp = c .before .before .before .before .before in
+    let r = room-spaces (sp .before .before .before .pre .small) (sp .before .place .ensures .inside) (sp .space-end .ensures) in
+    omega (arith, r .within, r .small)
+
 returns-2 : tie.Need-returns-2
 returns-2 c =
-    let by = c .before .before .before in
+    let i = c .before .before .before .before in
+    let by = i .before in
     let sp = by .before in
-    tells (record { placed = sp .before .place .ensures; ends = sp .space-end .ensures })
-    (λ y. sound-bare (c .no-spec .ensures) (rw (by .byte .ensures) at (c .before .told-bare .ensures y)))
+    let e = place-ends (sp .before .place .ensures) (sp .space-end .ensures) in
+    tells e
+    (λ y.
+    sound-bare (λ q. i .if1 .left (by .byte .ensures ∙ q)) (c .before .no-spec .ensures) e
+    (ending (by .byte .ensures) (c .before .before .is-told .ensures y) (c .before .before .before .hint-at .ensures) (c .onward .ensures)))
 
 pub tell-spec : {M : Type 1} → statement M
 tell-spec =
@@ -48,6 +65,8 @@ tell-spec =
     byte-requires
     with-spec-requires
     returns
-    told-bare-requires
+    hint-at-requires
+    is-told-requires
     no-spec-requires
+    onward-requires
     returns-2)

@@ -1,4 +1,4 @@
--- `answer::spans::cut_line` meets its contract: the two tests are the definition's.
+-- `spans::cut_line` meets its contract: the two tests are the definition's.
 use borrow.Author.Needs.{needs}
 use borrow.Author.Tests.{eq-eqb, ne-eqb}
 use Rattle.unicode.specs.Choice.{pick}

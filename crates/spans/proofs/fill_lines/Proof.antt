@@ -1,4 +1,4 @@
--- `answer::spans::fill_lines` meets its contract. The invariant: with the lines that the steps left still have the list is as it is to be.
+-- `spans::fill_lines` meets its contract. The invariant: with the lines that the steps left still have the list is as it is to be.
 -- The measure is how many steps are left.
 use Prim.Native.Nat.{_+_, _*_, _≤_}
 use borrow.Author.Needs.{needs}
@@ -15,7 +15,8 @@ use Rattle.reading.specs.Written.{over, pairs}
 use Rattle.spans.specs.Fills.{lastOf}
 use Rattle.reading.specs.WalkLaws.{step-next}
 use Rattle.spans.proofs.Filling.{Going, going-first, going-done, going-room, going-on, put-over}
-use Rattle.spans.proofs.Lining.{linesLeft, lines-left-none, step-room, step-written, lines-all, no-lines}
+use Rattle.reading.specs.ListLaws.{no-lines}
+use Rattle.spans.proofs.Lining.{linesLeft, lines-left-none, step-room, step-written, lines-all}
 use Rattle.spans.proofs.fill_lines.Statement.{statement}
 use Rattle.spans.proofs.fill_lines.Tie as tie
 
@@ -33,24 +34,27 @@ returns c =
     let a = c .before .before .before .before .args in
     rw (no-lines (now (a .text)) (a .frame) (a .mode) (not-true (a .frame .literal) (c .if1 .taken)))
 
+to-snippet-requires : tie.Need-to-snippet-requires Inv-loop μ-loop
+to-snippet-requires c κs = omega (arith, c .before .before .before .before .pre .0)
+
 add-left : tie.Need-add-left Inv-loop μ-loop
 add-left c = omega arith
 
 loop-holds : tie.Need-loop-holds Inv-loop μ-loop
 unfolding reading
 loop-holds c =
-    let s = c .before .before .before .before in
+    let s = c .before .before .before .before .before in
     let a = s .args in (
-      rw (lines-all (now (a .text)) (a .frame) (a .mode) (not-false (a .frame .literal) (c .if1 .left))) (going-first _ _ _),
+      rw (lines-all (now (a .text)) (a .frame) (a .mode) (not-false (a .frame .literal) (c .before .if1 .left)) (c .to-snippet .ensures)) (going-first _ _ _),
       omega (arith, s .pre .0 .text),
     )
 
 step-at-requires : tie.Need-step-at-requires Inv-loop μ-loop
-step-at-requires c κs = (c .before .before .before .before .before .before .pre .0, omega (arith, c .before .loop .inv .1))
+step-at-requires c κs = (c .before .before .before .before .before .before .before .pre .0, omega (arith, c .before .loop .inv .1))
 
 put-step-requires : tie.Need-put-step-requires Inv-loop μ-loop
 put-step-requires c κs =
-    let s = c .before .before .before .before .before .before .before .before in
+    let s = c .before .before .before .before .before .before .before .before .before in
     let a = s .args in
     let l = c .before .before .before .loop in (
       s .pre .0,
@@ -66,7 +70,7 @@ enum-told c = search needs
 
 put-last-requires : tie.Need-put-last-requires Inv-loop μ-loop
 put-last-requires c κs =
-    let s = c .before .before .before .before .before .before .before .before .before .before .before .before .before .before .before in
+    let s = c .before .before .before .before .before .before .before .before .before .before .before .before .before .before .before .before in
     let a = s .args in
     let l = c .before .before .before .before .before .before .before .before .before .before .loop in
     let over = sym (c .before .before .before .go-on .ensures) ∙ c .before .enum-told .given .1 in
@@ -82,7 +86,7 @@ same-length c = c .before .before .put-last .kept .1 .1 .1 .0 ∙ c .before .bef
 
 returns-2 : tie.Need-returns-2 Inv-loop μ-loop
 returns-2 c =
-    let s = c .before .before .before .before .before .before .before .before .before .before .before .before .before .before .before .before .before .before in
+    let s = c .before .before .before .before .before .before .before .before .before .before .before .before .before .before .before .before .before .before .before in
     let a = s .args in
     let l = c .before .before .before .before .before .before .before .before .before .before .before .before .before .loop in
     let over = sym (c .before .before .before .before .before .before .go-on .ensures) ∙ c .before .before .before .before .enum-told .given .1 in
@@ -108,7 +112,7 @@ loop-less c = omega (arith, c .before .before .before .before .before .before .b
 
 loop-again : tie.Need-loop-again Inv-loop μ-loop
 loop-again c =
-    let s = c .before .before .before .before .before .before .before .before .before .before .before .before .before .before .before in
+    let s = c .before .before .before .before .before .before .before .before .before .before .before .before .before .before .before .before in
     let a = s .args in
     let l = c .before .before .before .before .before .before .before .before .before .before .loop in
     let step = c .before .before .before .before .before .before .before .before .step-at .ensures in
@@ -124,7 +128,7 @@ same-length-2 c = c .before .loop .inv .0 .same
 
 returns-3 : tie.Need-returns-3 Inv-loop μ-loop
 returns-3 c =
-    let a = c .before .before .before .before .before .before .args in
+    let a = c .before .before .before .before .before .before .before .args in
     let l = c .before .loop in
     let none = steps-none (now (a .text)) (a .frame) (a .mode) (l .left) (l .state) (c .loop-test .left) in
     put-over
@@ -138,6 +142,7 @@ fill-lines-spec =
     Inv-loop
     μ-loop
     returns
+    to-snippet-requires
     add-left
     loop-holds
     step-at-requires

@@ -1,4 +1,4 @@
--- `answer::spans::fill_places` meets its contract. The invariant: with the argument places of the steps that are left the list is as it is
+-- `spans::fill_places` meets its contract. The invariant: with the argument places of the steps that are left the list is as it is
 -- to be. The measure is how many steps are left.
 use Prim.Native.Nat.{_+_, _*_, _≤_}
 use borrow.Author.Needs.{needs}
@@ -14,7 +14,8 @@ use Rattle.reading.specs.Lists.{gather, placesOf, places}
 use Rattle.reading.specs.Written.{over, pairs}
 use Rattle.reading.specs.WalkLaws.{step-next}
 use Rattle.spans.proofs.Filling.{Going, going-first, going-done, going-room, going-on, put-over}
-use Rattle.spans.proofs.Lining.{places-some, places-all, no-places}
+use Rattle.reading.specs.ListLaws.{no-places}
+use Rattle.spans.proofs.Lining.{places-some, places-all}
 use Rattle.spans.proofs.fill_places.Statement.{statement}
 use Rattle.spans.proofs.fill_places.Tie as tie
 

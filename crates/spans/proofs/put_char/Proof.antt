@@ -1,4 +1,4 @@
--- `answer::spans::put_char` meets its contract: a newline writes the line and starts the next one, any other character may be cut.
+-- `spans::put_char` meets its contract: a newline writes the line and starts the next one, any other character may be cut.
 use borrow.Author.Needs.{needs}
 use borrow.Author.Tests.{eq-eqb, ne-eqb}
 use denote.Ref.{now}

@@ -1,4 +1,4 @@
--- `answer::spans::put_closed` meets its contract: one span where the brace is there, none where it is missing.
+-- `spans::put_closed` meets its contract: one span where the brace is there, none where it is missing.
 use borrow.Author.Needs.{needs}
 use denote.Ref.{now}
 use Rattle.spans.proofs.Filling.{put-none, put-one}

@@ -1,4 +1,4 @@
--- `answer::spans::put_last` meets its contract: one line at the end of the text, none after any other step.
+-- `spans::put_last` meets its contract: one line at the end of the text, none after any other step.
 use borrow.Author.Needs.{needs}
 use mathlib.Core.Path.{sym}
 use denote.Ref.{now}

@@ -1,4 +1,4 @@
--- `answer::spans::put_missing` meets its contract: only where the brace is missing is there such a text.
+-- `spans::put_missing` meets its contract: only where the brace is missing is there such a text.
 use borrow.Author.Needs.{needs}
 use denote.Ref.{now}
 use mathlib.Core.List.{append-nil}

@@ -1,4 +1,4 @@
--- `answer::spans::put_part` meets its contract. The invariant: with the lines of the characters that are left the list is as it is to be,
+-- `spans::put_part` meets its contract. The invariant: with the lines of the characters that are left the list is as it is to be,
 -- and the line after them starts where it is to. The measure is what is left of the part.
 use Prim.Native.Nat.{_+_, _-_, _*_, _≤_}
 use borrow.Author.Needs.{needs}

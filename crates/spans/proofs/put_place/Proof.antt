@@ -1,4 +1,4 @@
--- `answer::spans::put_place` meets its contract: only a placeholder that is closed has a place.
+-- `spans::put_place` meets its contract: only a placeholder that is closed has a place.
 use borrow.Author.Needs.{needs}
 use denote.Ref.{now}
 use Rattle.spans.proofs.Filling.{put-none}

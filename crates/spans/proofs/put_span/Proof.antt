@@ -1,4 +1,4 @@
--- `answer::spans::put_span` meets its contract: two numbers are set, the span's start and its end.
+-- `spans::put_span` meets its contract: two numbers are set, the span's start and its end.
 use borrow.Author.Needs.{needs}
 use native.Mathlib.Omega.{arith}
 use denote.Ref.{now}

@@ -1,4 +1,4 @@
--- `answer::spans::put_step` meets its contract: a literal's text, or a placeholder's and that passed where its brace is missing, in order.
+-- `spans::put_step` meets its contract: a literal's text, or a placeholder's and that passed where its brace is missing, in order.
 use borrow.Author.Needs.{needs}
 use denote.Ref.{now}
 use mathlib.Core.List.{append-nil}

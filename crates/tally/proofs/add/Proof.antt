@@ -1,4 +1,4 @@
--- `reading::tally::add` meets its contract: it is the definition, and within the limits no sum wraps.
+-- `tally::add` meets its contract: it is the definition, and within the limits no sum wraps.
 use native.Mathlib.Omega.{arith}
 use mathlib.Core.Path.{refl}
 use Rattle.tally.proofs.add.Statement.{statement}

@@ -1,4 +1,4 @@
--- `reading::tally::closing_lines` meets its contract: it is the definition, with a closing brace and without one.
+-- `tally::closing_lines` meets its contract: it is the definition, with a closing brace and without one.
 use borrow.Author.Needs.{needs}
 use native.Mathlib.Omega.{arith}
 use Rattle.tally.proofs.closing_lines.Statement.{statement}

@@ -1,4 +1,4 @@
--- `reading::tally::line_count` meets its contract: it is the definition, step by step; a part of the text has no more newlines than the
+-- `tally::line_count` meets its contract: it is the definition, step by step; a part of the text has no more newlines than the
 -- text has bytes, and a step has two parts at most.
 use borrow.Author.Needs.{needs}
 use native.Mathlib.Omega.{arith}

@@ -1,4 +1,4 @@
--- `reading::tally::newlines_in` meets its contract. The invariant: the newlines counted and those from `i` on are those of the part, and
+-- `tally::newlines_in` meets its contract. The invariant: the newlines counted and those from `i` on are those of the part, and
 -- there are no more of them than bytes passed. The measure is what is left of the part.
 use borrow.Author.Needs.{needs}
 use Prim.Native.Nat.{_+_, _-_, _≤_}

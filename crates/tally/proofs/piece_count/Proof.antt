@@ -1,4 +1,4 @@
--- `reading::tally::piece_count` meets its contract: it is the definition, step by step.
+-- `tally::piece_count` meets its contract: it is the definition, step by step.
 use borrow.Author.Needs.{needs}
 use Rattle.tally.proofs.piece_count.Statement.{statement}
 use Rattle.tally.proofs.piece_count.Tie as tie

@@ -1,4 +1,4 @@
--- `reading::tally::place_count` meets its contract: it is the definition, step by step, and for a placeholder by how it ends.
+-- `tally::place_count` meets its contract: it is the definition, step by step, and for a placeholder by how it ends.
 use borrow.Author.Needs.{needs}
 use Rattle.tally.proofs.place_count.Statement.{statement}
 use Rattle.tally.proofs.place_count.Tie as tie

@@ -1,4 +1,4 @@
--- `reading::tally::step_counts` meets its contract: it is the definition, for a source literal and for anything else; a step has at most
+-- `tally::step_counts` meets its contract: it is the definition, for a source literal and for anything else; a step has at most
 -- one piece, thirteen faults, one place, and two lines for each byte.
 use borrow.Author.Needs.{needs}
 use borrow.Author.Tests.{not-true, not-false}

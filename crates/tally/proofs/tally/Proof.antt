@@ -1,4 +1,4 @@
--- `reading::tally::tally` meets its contract. The invariant: the counts so far and what the steps from the state on come to are the
+-- `tally::tally` meets its contract. The invariant: the counts so far and what the steps from the state on come to are the
 -- answer; a turn adds at most 131,070 to each count and four to the next argument's number. The measure is `left`.
 use borrow.Author.Needs.{needs}
 use Prim.Native.Nat.{_+_, _-_, _*_, _≤_}

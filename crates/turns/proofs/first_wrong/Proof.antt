@@ -1,4 +1,4 @@
--- `answer::turns::first_wrong` meets its contract. The invariant: the slots from the first to k are clean. The measure is what is left of 13.
+-- `turns::first_wrong` meets its contract. The invariant: the slots from the first to k are clean. The measure is what is left of 13.
 use Prim.Native.Nat.{_-_, _≤_}
 use native.Mathlib.Omega.{arith}
 use mathlib.Core.Path.{_≡_, refl, ap, sym, _∙_}

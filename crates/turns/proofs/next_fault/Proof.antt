@@ -1,4 +1,4 @@
--- `answer::turns::next_fault` meets its contract. The invariant: the faults from the slot at hand on are those from the first slot on.
+-- `turns::next_fault` meets its contract. The invariant: the faults from the slot at hand on are those from the first slot on.
 -- The measure is how many steps are left: a step with no further fault is passed.
 use Prim.Native.Nat.{_≤_, _<_}
 use borrow.Author.Needs.{needs}

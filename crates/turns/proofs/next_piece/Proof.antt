@@ -1,4 +1,4 @@
--- `answer::turns::next_piece` meets its contract: the step at the cursor is the run's first, each step but the last has one piece,
+-- `turns::next_piece` meets its contract: the step at the cursor is the run's first, each step but the last has one piece,
 -- and the pieces after it are those where reading goes on.
 use borrow.Author.Needs.{needs}
 use Prim.Native.Nat.{_<_}

@@ -1,4 +1,4 @@
--- `answer::turns::piece_of` meets its contract: each case of the step answers as the definition's.
+-- `turns::piece_of` meets its contract: each case of the step answers as the definition's.
 use borrow.Author.Needs.{needs}
 use Rattle.turns.proofs.piece_of.Statement.{statement}
 use Rattle.turns.proofs.piece_of.Tie as tie

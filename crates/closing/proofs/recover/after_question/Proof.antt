@@ -1,4 +1,4 @@
--- `placeholder::recover::after_question` meets its contract: it is the definition, test by test: `?}`, then `?:` with its word, then
+-- `closing::recover::after_question` meets its contract: it is the definition, test by test: `?}`, then `?:` with its word, then
 -- any other.
 use borrow.Author.Needs.{needs}
 use Rattle.unicode.specs.Choice.{pick}

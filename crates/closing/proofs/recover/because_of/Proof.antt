@@ -1,4 +1,4 @@
--- `placeholder::recover::because_of` meets its contract: it is the definition by what the fill is.
+-- `closing::recover::because_of` meets its contract: it is the definition by what the fill is.
 use borrow.Author.Needs.{needs}
 use borrow.Author.Tests.{eq-eqb, ne-eqb}
 use Rattle.unicode.specs.Choice.{pick}

@@ -1,4 +1,4 @@
--- `placeholder::recover::expected` meets its contract: it is the definition by what is seen.
+-- `closing::recover::expected` meets its contract: it is the definition by what is seen.
 use borrow.Author.Needs.{needs}
 use Rattle.closing.specs.Recovery.{expectedAt}
 use Rattle.closing.proofs.recover.expected.Statement.{statement}

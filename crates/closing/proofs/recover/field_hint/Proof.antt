@@ -1,4 +1,4 @@
--- `placeholder::recover::field_hint` meets its contract: it is the definition, case by case.
+-- `closing::recover::field_hint` meets its contract: it is the definition, case by case.
 use borrow.Author.Needs.{needs}
 use Rattle.closing.proofs.recover.field_hint.Statement.{statement}
 use Rattle.closing.proofs.recover.field_hint.Tie as tie

@@ -1,4 +1,4 @@
--- `placeholder::recover::is_default` meets its contract: it is the definition, test by test.
+-- `closing::recover::is_default` meets its contract: it is the definition, test by test.
 use borrow.Author.Needs.{needs}
 use Rattle.closing.specs.Defaults.{isDefault}
 use Rattle.closing.proofs.recover.is_default.Statement.{statement}

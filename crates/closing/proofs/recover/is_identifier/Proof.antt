@@ -1,4 +1,4 @@
--- `placeholder::recover::is_identifier` meets its contract: it is the definition, test by test.
+-- `closing::recover::is_identifier` meets its contract: it is the definition, test by test.
 use borrow.Author.Needs.{needs}
 use Rattle.closing.specs.Defaults.{isIdentifier}
 use Rattle.closing.proofs.recover.is_identifier.Statement.{statement}

@@ -1,4 +1,4 @@
--- `placeholder::recover::no_marks` meets its contract: it is the definition, test by test.
+-- `closing::recover::no_marks` meets its contract: it is the definition, test by test.
 use borrow.Author.Needs.{needs}
 use Rattle.closing.specs.Defaults.{noMarks}
 use Rattle.closing.proofs.recover.no_marks.Statement.{statement}

@@ -1,4 +1,4 @@
--- `placeholder::recover::passed_to` meets its contract: it is the definition, a record.
+-- `closing::recover::passed_to` meets its contract: it is the definition, a record.
 use borrow.Author.Needs.{needs}
 use Rattle.closing.proofs.recover.passed_to.Statement.{statement}
 use Rattle.closing.proofs.recover.passed_to.Tie as tie

@@ -1,4 +1,4 @@
--- `placeholder::recover::read_field` meets its contract: it is the definition, call by call, with no dot, with a field that is closed
+-- `closing::recover::read_field` meets its contract: it is the definition, call by call, with no dot, with a field that is closed
 -- and with one that is not, after which reading stands where the field ended.
 use borrow.Author.Needs.{needs}
 use borrow.Author.Tests.{not-true, not-false}

@@ -1,4 +1,4 @@
--- `placeholder::recover::recover` meets its contract: it is the definition, test by test; two characters remain where the place past
+-- `closing::recover::recover` meets its contract: it is the definition, test by test; two characters remain where the place past
 -- the first is within the text.
 use borrow.Author.Needs.{needs}
 use borrow.Author.Tests.{lt-ltb, le-ltb, not-true, not-false}

@@ -1,4 +1,4 @@
--- `placeholder::recover::sign_hint` meets its contract: it is the definition, sign by sign.
+-- `closing::recover::sign_hint` meets its contract: it is the definition, sign by sign.
 use borrow.Author.Needs.{needs}
 use Rattle.unicode.specs.Choice.{pick}
 use Rattle.closing.specs.Recovery.{signHint}

@@ -1,4 +1,4 @@
--- `placeholder::recover::text_taken` meets its contract: it is the definition, mode by mode.
+-- `closing::recover::text_taken` meets its contract: it is the definition, mode by mode.
 use borrow.Author.Needs.{needs}
 use Rattle.closing.proofs.recover.text_taken.Statement.{statement}
 use Rattle.closing.proofs.recover.text_taken.Tie as tie

@@ -1,4 +1,4 @@
--- `placeholder::whole::missing` meets its contract: it is the definition, call by call.
+-- `closing::whole::missing` meets its contract: it is the definition, call by call.
 use borrow.Author.Needs.{needs}
 use Rattle.closing.specs.Wholes.{missingRead}
 use Rattle.closing.proofs.whole.missing.Statement.{statement}

@@ -1,4 +1,4 @@
--- `placeholder::whole::placeholder` meets its contract: it is the definition, call by call, with a closing brace and without one; an
+-- `closing::whole::placeholder` meets its contract: it is the definition, call by call, with a closing brace and without one; an
 -- argument takes at most two numbers, so the next one is within the limit of what follows.
 use borrow.Author.Needs.{needs}
 use native.Mathlib.Omega.{arith}

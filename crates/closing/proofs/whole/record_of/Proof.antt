@@ -1,4 +1,4 @@
--- `placeholder::whole::record_of` meets its contract: it is the definition, a record.
+-- `closing::whole::record_of` meets its contract: it is the definition, a record.
 use borrow.Author.Needs.{needs}
 use Rattle.closing.proofs.whole.record_of.Statement.{statement}
 use Rattle.closing.proofs.whole.record_of.Tie as tie

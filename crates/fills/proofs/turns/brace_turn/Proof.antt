@@ -4,7 +4,7 @@ use native.Mathlib.Omega.{arith}
 use mathlib.Core.Path.{_∙_}
 use denote.Ref.{now}
 use Rattle.placeholder.specs.declared.Mode.{Mode}
-use Rattle.fills.proofs.Stepping.{argument-room, stepped-told, told-on, told-sound, step-told, turned-on}
+use Rattle.fills.proofs.Stepping.{argument-room, told-room, stepped-told, told-on, told-sound, step-told, turned-on}
 use Rattle.fills.proofs.turns.brace_turn.Statement.{statement}
 use Rattle.fills.proofs.turns.brace_turn.Tie as tie
 
@@ -18,102 +18,111 @@ byte-requires : tie.Need-byte-requires
 byte-requires c κs = search needs
 
 plain-turn-requires : tie.Need-plain-turn-requires
-plain-turn-requires c κs =
-    (c .before .before .before .before .before .before .before .before .before .pre .0, c .before .before .before .before .before .before .before .before .before .pre .1, c .before .before .before .before .before .before .before .before .before .pre .2)
+plain-turn-requires c κs = let s = c .before .before .before .before .before .before .before .before .before in (s .pre .0, s .pre .1, s .pre .2)
 
 same-length : tie.Need-same-length
-same-length c = search needs
+same-length c = c .before .before .before .pieces .given
 
 same-length-2 : tie.Need-same-length-2
-same-length-2 c = search needs
+same-length-2 c = c .before .errors .given
 
 returns : tie.Need-returns
 returns c = c .before .before .before .before .plain-turn .ensures
 
 add-tell : tie.Need-add-tell
-add-tell c =
-    omega (arith, c .before .before .before .before .before .before .before .pre .0 .text, c .before .before .before .before .before .before .before .pre .4)
+add-tell c = omega (arith, c .before .before .before .before .before .before .before .pre .0 .text, c .before .before .before .before .before .before .before .pre .4)
 
 tell-requires : tie.Need-tell-requires
-tell-requires c κs =
-    record { within = omega (arith, c .before .before .before .before .before .before .before .pre .4); small = c .before .before .before .before .before .before .before .pre .0 .text }
+tell-requires c κs = record { within = omega (arith, c .before .before .before .before .before .before .before .pre .4); small = c .before .before .before .before .before .before .before .pre .0 .text }
 
 put-told-requires : tie.Need-put-told-requires
 put-told-requires c κs =
-    let a = c .before .before .before .before .before .before .before .before .before .before .args in
+    let s = c .before .before .before .before .before .before .before .before .before .before in
+    let a = s .args in
     let told = c .before .before .tell .ensures in
-    let step = step-told (now (a .text)) (a .frame) (a .state) _ (c .before .before .before .before .before .before .before .before .before .before .pre .4) (c .before .before .before .before .before .before .before .before .before .before .pre .3) (λ e. c .before .before .before .if1 .left (c .before .before .before .before .byte .ensures ∙ e)) told (c .before .if2 .taken) in
-    (c .before .before .before .before .before .before .before .before .before .before .pre .0, told-sound _ _ _ told (c .before .if2 .taken), omega (arith, c .before .before .before .before .before .before .before .before .before .before .pre .0 .text, c .before .before .before .before .before .before .before .before .before .before .pre .4), c .before .before .before .before .before .before .before .before .before .before .pre .1, argument-room (now (a .text)) (a .frame) (rw (c .before .before .before .before .before .enum-told .given .1, ← step) at (c .before .before .before .before .before .before .before .before .before .before .pre .2)))
-
-add-t21 : tie.Need-add-t21
-add-t21 c =
-    let told = c .before .before .before .before .before .before .tell .ensures in
-    omega (arith, c .before .before .before .before .before .before .before .before .before .before .before .before .before .before .pre .0 .text, told .closed (c .before .before .before .before .before .if2 .taken))
+    let step = step-told (now (a .text)) (a .frame) (a .state) _ (s .pre .4) (s .pre .3) (λ e. c .before .before .before .if1 .left (c .before .before .before .before .byte .ensures ∙ e)) told (c .before .if2 .taken) in
+    let room = rw (c .before .before .before .before .before .enum-told .given .1, ← step) at (s .pre .2) in
+    (s .pre .0, told-sound _ _ _ told (c .before .if2 .taken), omega (arith, s .pre .0 .text, s .pre .4), s .pre .1, argument-room (now (a .text)) (a .frame) room)
 
 next-after-requires : tie.Need-next-after-requires
-next-after-requires c κs = c .before .before .before .before .before .before .before .before .before .before .before .before .before .before .pre .1
+next-after-requires c κs = c .before .before .before .before .before .before .before .before .before .before .before .before .before .pre .1
 
 one-more-requires : tie.Need-one-more-requires
 one-more-requires c κs =
-    let a = c .before .before .before .before .before .before .before .before .before .before .before .before .before .before .before .args in
-    let told = c .before .before .before .before .before .before .before .tell .ensures in
-    let step = step-told (now (a .text)) (a .frame) (a .state) _ (c .before .before .before .before .before .before .before .before .before .before .before .before .before .before .before .pre .4) (c .before .before .before .before .before .before .before .before .before .before .before .before .before .before .before .pre .3) (λ e. c .before .before .before .before .before .before .before .before .if1 .left (c .before .before .before .before .before .before .before .before .before .byte .ensures ∙ e)) told (c .before .before .before .before .before .before .if2 .taken) in
-    let room = argument-room (now (a .text)) (a .frame) (rw (c .before .before .before .before .before .before .before .before .before .before .enum-told .given .1, ← step) at (c .before .before .before .before .before .before .before .before .before .before .before .before .before .before .before .pre .2)) in
-    omega (arith, c .before .before .before .before .before .before .before .before .before .before .before .before .before .before .before .good)
+    let s = c .before .before .before .before .before .before .before .before .before .before .before .before .before .before .before in
+    let a = s .args in
+    let step = step-told (now (a .text)) (a .frame) (a .state) _ (s .pre .4) (s .pre .3) (λ e. c .before .before .before .before .before .before .before .before .if1 .left (c .before .before .before .before .before .before .before .before .before .byte .ensures ∙ e)) (c .before .before .before .before .before .before .before .tell .ensures) (c .before .before .before .before .before .before .if2 .taken) in
+    let room = argument-room (now (a .text)) (a .frame) (rw (c .before .before .before .before .before .before .before .before .before .before .enum-told .given .1, ← step) at (s .pre .2)) in
+    omega (arith, s .good)
+
+put-wrongs-requires : tie.Need-put-wrongs-requires
+put-wrongs-requires c κs =
+    let s = c .before .before .before .before .before .before .before .before .before .before .before .before .before .before .before .before in
+    let a = s .args in
+    let told = c .before .before .before .before .before .before .before .before .tell .ensures in
+    let step = step-told (now (a .text)) (a .frame) (a .state) _ (s .pre .4) (s .pre .3) (λ e. c .before .before .before .before .before .before .before .before .before .if1 .left (c .before .before .before .before .before .before .before .before .before .before .byte .ensures ∙ e)) told (c .before .before .before .before .before .before .before .if2 .taken) in
+    let room = rw (c .before .before .before .before .before .before .before .before .before .before .before .enum-told .given .1, ← step) at (s .pre .2) in (
+      s .pre .0,
+      omega (arith, s .pre .0 .text, s .pre .4),
+      omega (arith, s .pre .0 .text, told .reached (c .before .before .before .before .before .before .before .if2 .taken)),
+      rw (c .one-more .ensures) (told-room (now (a .text)) (a .frame) (a .state .at .0) (a .state .next) (c .before .before .before .before .before .before .before .before .tell .result) room),
+    )
 
 same-length-3 : tie.Need-same-length-3
-same-length-3 c = search needs
+same-length-3 c = c .before .before .before .before .before .before .before .pieces2 .given
+
+same-length-4 : tie.Need-same-length-4
+same-length-4 c = c .before .errors2 .given
 
 returns-2 : tie.Need-returns-2
 returns-2 c =
-    let a = c .before .before .before .before .before .before .before .before .before .before .before .before .before .before .before .before .args in
-    let told = c .before .before .before .before .before .before .before .before .tell .ensures in
-    let step = step-told (now (a .text)) (a .frame) (a .state) _ (c .before .before .before .before .before .before .before .before .before .before .before .before .before .before .before .before .pre .4) (c .before .before .before .before .before .before .before .before .before .before .before .before .before .before .before .before .pre .3) (λ e. c .before .before .before .before .before .before .before .before .before .if1 .left (c .before .before .before .before .before .before .before .before .before .before .byte .ensures ∙ e)) told (c .before .before .before .before .before .before .before .if2 .taken) in
-    rw (c .before .before .before .before .before .before .before .before .before .before .before .enum-told .given .1)
-    (turned-on (now (a .text)) (a .frame) Mode.Format (a .state) step (stepped-told (now (a .text)) (a .frame) (a .state .at .0) (a .state .next) _ (c .one-more .ensures) (c .before .before .before .before .before .put-told .ensures))
-    (told-on (now (a .text)) (a .frame) (a .state .at .0) (a .state .next) _ (c .before .next-after .ensures)))
+    let s = c .before .before .before .before .before .before .before .before .before .before .before .before .before .before .before .before .before .before .before in
+    let a = s .args in
+    let step = step-told (now (a .text)) (a .frame) (a .state) _ (s .pre .4) (s .pre .3) (λ e. c .before .before .before .before .before .before .before .before .before .before .before .before .if1 .left (c .before .before .before .before .before .before .before .before .before .before .before .before .before .byte .ensures ∙ e)) (c .before .before .before .before .before .before .before .before .before .before .before .tell .ensures) (c .before .before .before .before .before .before .before .before .before .before .if2 .taken) in
+    let wrongs = rw (c .before .before .before .one-more .ensures) at (c .before .before .put-wrongs .ensures) in
+    rw (c .before .before .before .before .before .before .before .before .before .before .before .before .before .before .enum-told .given .1)
+    (turned-on (now (a .text)) (a .frame) Mode.Format (a .state) step
+    (stepped-told (now (a .text)) (a .frame) (a .state .at .0) (a .state .next) (c .before .before .before .before .before .before .before .before .before .before .before .tell .result) (c .before .before .before .before .before .before .before .before .put-told .ensures) wrongs)
+    (told-on (now (a .text)) (a .frame) (a .state .at .0) (a .state .next) (c .before .before .before .before .before .before .before .before .before .before .before .tell .result) (c .before .before .before .before .before .next-after .ensures)))
 
 plain-turn-requires-2 : tie.Need-plain-turn-requires-2
-plain-turn-requires-2 c κs =
-    (c .before .before .before .before .before .before .before .before .before .before .before .pre .0, c .before .before .before .before .before .before .before .before .before .before .before .pre .1, c .before .before .before .before .before .before .before .before .before .before .before .pre .2)
+plain-turn-requires-2 c κs = let s = c .before .before .before .before .before .before .before .before .before .before .before in (s .pre .0, s .pre .1, s .pre .2)
 
 enum-told-2 : tie.Need-enum-told-2
 enum-told-2 c = search needs
 
 plain-turn-requires-3 : tie.Need-plain-turn-requires-3
-plain-turn-requires-3 c κs =
-    (c .before .before .before .before .before .before .before .pre .0, c .before .before .before .before .before .before .before .pre .1, c .before .before .before .before .before .before .before .pre .2)
+plain-turn-requires-3 c κs = let s = c .before .before .before .before .before .before .before in (s .pre .0, s .pre .1, s .pre .2)
 
 enum-told-3 : tie.Need-enum-told-3
 enum-told-3 c = search needs
 
 plain-turn-requires-4 : tie.Need-plain-turn-requires-4
-plain-turn-requires-4 c κs =
-    (c .before .before .before .before .before .before .before .pre .0, c .before .before .before .before .before .before .before .pre .1, c .before .before .before .before .before .before .before .pre .2)
-
-same-length-4 : tie.Need-same-length-4
-same-length-4 c = search needs
+plain-turn-requires-4 c κs = let s = c .before .before .before .before .before .before .before in (s .pre .0, s .pre .1, s .pre .2)
 
 same-length-5 : tie.Need-same-length-5
-same-length-5 c = search needs
+same-length-5 c = c .before .before .before .pieces3 .given
+
+same-length-6 : tie.Need-same-length-6
+same-length-6 c = c .before .errors3 .given
 
 returns-3 : tie.Need-returns-3
 returns-3 c = c .before .before .before .before .plain-turn2 .ensures
 
-same-length-6 : tie.Need-same-length-6
-same-length-6 c = search needs
-
 same-length-7 : tie.Need-same-length-7
-same-length-7 c = search needs
+same-length-7 c = c .before .before .before .pieces4 .given
+
+same-length-8 : tie.Need-same-length-8
+same-length-8 c = c .before .errors4 .given
 
 returns-4 : tie.Need-returns-4
 returns-4 c = c .before .before .before .before .plain-turn3 .ensures
 
-same-length-8 : tie.Need-same-length-8
-same-length-8 c = search needs
-
 same-length-9 : tie.Need-same-length-9
-same-length-9 c = search needs
+same-length-9 c = c .before .before .before .pieces5 .given
+
+same-length-10 : tie.Need-same-length-10
+same-length-10 c = c .before .errors5 .given
 
 returns-5 : tie.Need-returns-5
 returns-5 c = c .before .before .before .before .plain-turn4 .ensures
@@ -132,22 +141,23 @@ brace-turn-spec =
     add-tell
     tell-requires
     put-told-requires
-    add-t21
     next-after-requires
     one-more-requires
+    put-wrongs-requires
     same-length-3
+    same-length-4
     returns-2
     plain-turn-requires-2
     enum-told-2
     plain-turn-requires-3
     enum-told-3
     plain-turn-requires-4
-    same-length-4
     same-length-5
-    returns-3
     same-length-6
+    returns-3
     same-length-7
-    returns-4
     same-length-8
+    returns-4
     same-length-9
+    same-length-10
     returns-5)

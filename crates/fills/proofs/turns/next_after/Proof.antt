@@ -1,9 +1,6 @@
 -- `fills::turns::next_after` meets its contract: it is the definition.
 use borrow.Author.Needs.{needs}
 use native.Mathlib.Omega.{arith}
-use borrow.Author.Tests.{eq-eqb, ne-eqb}
-use Rattle.unicode.specs.Choice.{pick}
-use Rattle.quick.specs.Tellings.{nextOf}
 use Rattle.fills.proofs.Telling.{star-few, next-implied, next-given}
 use Rattle.fills.proofs.turns.next_after.Statement.{statement}
 use Rattle.fills.proofs.turns.next_after.Tie as tie

@@ -1,7 +1,7 @@
 -- `fills::turns::next_turn` meets its contract: the byte there says which step it is.
 use borrow.Author.Needs.{needs}
 use native.Mathlib.Omega.{arith}
-use mathlib.Core.Path.{refl, sym, ap, _∙_}
+use mathlib.Core.Path.{refl, ap, _∙_}
 use denote.Ref.{now}
 use Rattle.frame.specs.Places.{rangeOf}
 use Rattle.frame.specs.declared.TextPlace.{TextPlace}
@@ -24,10 +24,10 @@ brace-turn-requires c κs =
     (c .before .before .before .before .before .before .before .before .before .pre .0, c .before .before .before .before .before .before .before .before .before .pre .1, c .before .before .before .before .before .before .before .before .before .pre .2, c .before .before .if2 .taken, c .before .before .before .before .if1 .left)
 
 same-length : tie.Need-same-length
-same-length c = search needs
+same-length c = c .before .before .before .pieces .given
 
 same-length-2 : tie.Need-same-length-2
-same-length-2 c = search needs
+same-length-2 c = c .before .errors .given
 
 returns-2 : tie.Need-returns-2
 returns-2 c = c .before .before .before .before .brace-turn .ensures
@@ -36,10 +36,10 @@ plain-turn-requires : tie.Need-plain-turn-requires
 plain-turn-requires c κs = c .before .before .before .before .before .before .before .before .before .before .pre
 
 same-length-3 : tie.Need-same-length-3
-same-length-3 c = search needs
+same-length-3 c = c .before .before .before .pieces2 .given
 
 same-length-4 : tie.Need-same-length-4
-same-length-4 c = search needs
+same-length-4 c = c .before .errors2 .given
 
 returns-3 : tie.Need-returns-3
 returns-3 c = c .before .before .before .before .plain-turn .ensures
@@ -59,7 +59,7 @@ one-more-requires c κs =
     omega (arith, c .before .before .before .before .before .before .before .before .before .before .before .before .before .good)
 
 same-length-5 : tie.Need-same-length-5
-same-length-5 c = search needs
+same-length-5 c = c .before .before .pieces3 .given
 
 returns-4 : tie.Need-returns-4
 returns-4 c =

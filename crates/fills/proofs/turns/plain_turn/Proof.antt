@@ -23,10 +23,10 @@ enum-known-on : tie.Need-enum-known-on
 enum-known-on c = search needs
 
 same-length : tie.Need-same-length
-same-length c = search needs
+same-length c = c .before .before .before .before .before .before .pieces .given
 
 same-length-2 : tie.Need-same-length-2
-same-length-2 c = search needs
+same-length-2 c = c .before .before .before .before .errors .given
 
 returns : tie.Need-returns
 returns c =
@@ -34,10 +34,10 @@ returns c =
     turned-over (now (a .text)) (a .frame) (a .mode) (a .state) (c .before .before .before .before .before .before .before .before .before .before .step-at .ensures) (c .before .before .before .before .before .before .before .put-step .ensures) (a .state) (sym (c .before .before .go-on .ensures) ∙ c .enum-told .given .1)
 
 same-length-3 : tie.Need-same-length-3
-same-length-3 c = search needs
+same-length-3 c = c .before .before .before .before .before .before .before .pieces .given
 
 same-length-4 : tie.Need-same-length-4
-same-length-4 c = search needs
+same-length-4 c = c .before .before .before .before .before .errors .given
 
 returns-2 : tie.Need-returns-2
 returns-2 c =

@@ -16,63 +16,59 @@ returns c =
     let a = c .before .before .before .before .args in
     put-clean (now (a .text)) (a .frame) (a .marks) (now (a .errors)) (a .fault) (sym (c .before .is-clean .ensures) ∙ c .if1 .taken)
 
-record-of-requires : tie.Need-record-of-requires
-record-of-requires c κs = search needs
-
 is-front-requires : tie.Need-is-front-requires
 is-front-requires c κs = search needs
 
-put-error-requires : tie.Need-put-error-requires
-put-error-requires c κs =
-    let a = c .before .before .before .before .before .before .before .before .args in
-    room-back (now (a .text)) (a .frame) (a .marks) (now (a .errors)) (a .fault) (sym (c .before .before .before .before .before .is-clean .ensures) ∙ c .before .before .before .before .if1 .left)
-    (sym (c .before .before .is-front .ensures) ∙ not-true _ (c .before .if2 .taken)) (c .before .before .before .before .before .before .before .before .pre .1)
+put-record-requires : tie.Need-put-record-requires
+put-record-requires c κs =
+    let s = c .before .before .before .before .before .before .before in
+    let a = s .args in (
+      s .pre .0,
+      room-back (now (a .text)) (a .frame) (a .marks) (now (a .errors)) (a .fault) (sym (c .before .before .before .before .is-clean .ensures) ∙ c .before .before .before .if1 .left) (sym (c .before .before .is-front .ensures) ∙ not-true _ (c .before .if2 .taken)) (s .pre .1),
+    )
 
-add-t13 : tie.Need-add-t13
-add-t13 c = search needs
+add-t12 : tie.Need-add-t12
+add-t12 c = search needs
 
 same-length : tie.Need-same-length
 same-length c = search needs
 
 returns-2 : tie.Need-returns-2
 returns-2 c =
-    let a = c .before .before .before .before .before .before .before .before .before .before .before .before .args in
-    put-back (now (a .text)) (a .frame) (a .marks) (now (a .errors)) (a .fault) (sym (c .before .before .before .before .before .before .before .before .before .is-clean .ensures) ∙ c .before .before .before .before .before .before .before .before .if1 .left) (c .before .before .before .before .before .before .before .record-of .ensures)
-    (sym (c .before .before .before .before .before .before .is-front .ensures) ∙ not-true _ (c .before .before .before .before .before .if2 .taken)) (c .before .before .before .put-error .ensures)
+    let a = c .before .before .before .before .before .before .before .before .before .before .before .args in
+    put-back (now (a .text)) (a .frame) (a .marks) (now (a .errors)) (a .fault) (sym (c .before .before .before .before .before .before .before .before .is-clean .ensures) ∙ c .before .before .before .before .before .before .before .if1 .left) (sym (c .before .before .before .before .before .before .is-front .ensures) ∙ not-true _ (c .before .before .before .before .before .if2 .taken)) (c .before .before .before .put-record .ensures)
 
-add-t14 : tie.Need-add-t14
-add-t14 c = search needs
+add-t13 : tie.Need-add-t13
+add-t13 c = search needs
 
 returns-3 : tie.Need-returns-3
 returns-3 c =
-    let a = c .before .before .before .before .before .before .before .before .before .before .args in
-    put-apart (now (a .text)) (a .frame) (a .marks) (now (a .errors)) (a .fault) (sym (c .before .before .before .before .before .before .before .is-clean .ensures) ∙ c .before .before .before .before .before .before .if1 .left)
-    (sym (c .before .before .before .before .is-front .ensures) ∙ not-false _ (c .before .before .before .if2 .left)) (c .before .if3 .taken)
+    let a = c .before .before .before .before .before .before .before .before .before .args in
+    put-apart (now (a .text)) (a .frame) (a .marks) (now (a .errors)) (a .fault) (sym (c .before .before .before .before .before .before .is-clean .ensures) ∙ c .before .before .before .before .before .if1 .left) (sym (c .before .before .before .before .is-front .ensures) ∙ not-false _ (c .before .before .before .if2 .left)) (c .before .if3 .taken)
 
-sub-put-error : tie.Need-sub-put-error
-sub-put-error c = search needs
+sub-put-record : tie.Need-sub-put-record
+sub-put-record c = search needs
 
-put-error-requires-2 : tie.Need-put-error-requires-2
-put-error-requires-2 c κs = search needs
+put-record-requires-2 : tie.Need-put-record-requires-2
+put-record-requires-2 c κs = search needs
 
-sub-t18 : tie.Need-sub-t18
-sub-t18 c = search needs
+sub-t17 : tie.Need-sub-t17
+sub-t17 c = search needs
 
-add-t19 : tie.Need-add-t19
-add-t19 c =
-    let a = c .before .before .before .before .before .before .before .before .before .before .before .before .before .before .before .before .args in
-    let room = room-front (now (a .text)) (a .frame) (a .marks) (now (a .errors)) (a .fault) (sym (c .before .before .before .before .before .before .before .before .before .before .before .before .before .is-clean .ensures) ∙ c .before .before .before .before .before .before .before .before .before .before .before .before .if1 .left)
-    (sym (c .before .before .before .before .before .before .before .before .before .before .is-front .ensures) ∙ not-false _ (c .before .before .before .before .before .before .before .before .before .if2 .left)) (c .before .before .before .before .before .before .before .before .before .before .before .before .before .before .before .before .pre .1) in
-    omega (arith, c .before .before .before .before .before .before .before .before .before .before .before .before .before .before .before .before .good)
+add-t18 : tie.Need-add-t18
+add-t18 c =
+    let s = c .before .before .before .before .before .before .before .before .before .before .before .before .before .before .before in
+    let a = s .args in
+    let room = room-front (now (a .text)) (a .frame) (a .marks) (now (a .errors)) (a .fault) (sym (c .before .before .before .before .before .before .before .before .before .before .before .before .is-clean .ensures) ∙ c .before .before .before .before .before .before .before .before .before .before .before .if1 .left) (sym (c .before .before .before .before .before .before .before .before .before .before .is-front .ensures) ∙ not-false _ (c .before .before .before .before .before .before .before .before .before .if2 .left)) (s .pre .1) in
+    omega (arith, s .good)
 
 same-length-2 : tie.Need-same-length-2
 same-length-2 c = search needs
 
 returns-4 : tie.Need-returns-4
 returns-4 c =
-    let a = c .before .before .before .before .before .before .before .before .before .before .before .before .before .before .before .before .args in
-    put-front (now (a .text)) (a .frame) (a .marks) (now (a .errors)) (a .fault) (sym (c .before .before .before .before .before .before .before .before .before .before .before .before .before .is-clean .ensures) ∙ c .before .before .before .before .before .before .before .before .before .before .before .before .if1 .left) (c .before .before .before .before .before .before .before .before .before .before .before .record-of .ensures)
-    (sym (c .before .before .before .before .before .before .before .before .before .before .is-front .ensures) ∙ not-false _ (c .before .before .before .before .before .before .before .before .before .if2 .left)) (c .before .before .before .before .before .before .before .if3 .left) (c .before .before .before .before .put-error2 .ensures)
+    let a = c .before .before .before .before .before .before .before .before .before .before .before .before .before .before .before .args in
+    put-front (now (a .text)) (a .frame) (a .marks) (now (a .errors)) (a .fault) (sym (c .before .before .before .before .before .before .before .before .before .before .before .before .is-clean .ensures) ∙ c .before .before .before .before .before .before .before .before .before .before .before .if1 .left) (sym (c .before .before .before .before .before .before .before .before .before .before .is-front .ensures) ∙ not-false _ (c .before .before .before .before .before .before .before .before .before .if2 .left)) (c .before .before .before .before .before .before .before .if3 .left) (c .before .before .before .before .put-record2 .ensures)
 
 pub put-fault-spec : {M : Type 1} → statement M
 put-fault-spec =
@@ -80,17 +76,16 @@ put-fault-spec =
     (tie.spec
     is-clean-requires
     returns
-    record-of-requires
     is-front-requires
-    put-error-requires
-    add-t13
+    put-record-requires
+    add-t12
     same-length
     returns-2
-    add-t14
+    add-t13
     returns-3
-    sub-put-error
-    put-error-requires-2
-    sub-t18
-    add-t19
+    sub-put-record
+    put-record-requires-2
+    sub-t17
+    add-t18
     same-length-2
     returns-4)

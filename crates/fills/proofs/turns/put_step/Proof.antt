@@ -1,8 +1,9 @@
 -- `fills::turns::put_step` meets its contract: each kind of step, its piece and its records.
 use borrow.Author.Needs.{needs}
 use native.Mathlib.Omega.{arith}
+use mathlib.Core.Path.{_∙_}
 use denote.Ref.{now}
-use Rattle.fills.proofs.Stepping.{stepped-end, stop-room, stepped-stop, literal-room, stepped-literal, argument-room, faults-room, closing-room, stepped-placeholder}
+use Rattle.fills.proofs.Stepping.{stepped-end, stop-room, stepped-stop, literal-room, stepped-literal}
 use Rattle.fills.proofs.turns.put_step.Statement.{statement}
 use Rattle.fills.proofs.turns.put_step.Tie as tie
 
@@ -34,26 +35,10 @@ one-more-requires c κs =
 enum-known-step-3 : tie.Need-enum-known-step-3
 enum-known-step-3 c = search needs
 
-put-argument-requires : tie.Need-put-argument-requires
-put-argument-requires c κs =
-    let a = c .before .before .before .before .before .before .before .before .before .args in
-    argument-room (now (a .text)) (a .frame) (rw (c .before .before .before .before .step3 .given .1) at (c .before .before .before .before .before .before .before .before .before .pre .1))
-
-one-more-requires-2 : tie.Need-one-more-requires-2
-one-more-requires-2 c κs =
-    let a = c .before .before .before .before .before .before .before .before .before .before .before .before .before .args in
-    let room = argument-room (now (a .text)) (a .frame) (rw (c .before .before .before .before .before .before .before .before .step3 .given .1) at (c .before .before .before .before .before .before .before .before .before .before .before .before .before .pre .1)) in
-    omega (arith, c .before .before .before .before .before .before .before .before .before .before .before .before .before .good)
-
-put-argument-faults-requires : tie.Need-put-argument-faults-requires
-put-argument-faults-requires c κs =
-    let a = c .before .before .before .before .before .before .before .before .before .before .before .before .before .before .args in
-    (c .before .before .before .before .before .before .before .before .before .before .before .before .before .before .pre .0, faults-room (now (a .text)) (a .frame) (c .one-more2 .ensures) (rw (c .before .before .before .before .before .before .before .before .before .step3 .given .1) at (c .before .before .before .before .before .before .before .before .before .before .before .before .before .before .pre .1)))
-
-put-closing-faults-requires : tie.Need-put-closing-faults-requires
-put-closing-faults-requires c κs =
-    let a = c .before .before .before .before .before .before .before .before .before .before .before .before .before .before .before .before .before .before .args in
-    (c .before .before .before .before .before .before .before .before .before .before .before .before .before .before .before .before .before .before .pre .0, closing-room (now (a .text)) (a .frame) (c .before .before .before .before .one-more2 .ensures) (rw (c .before .before .before .before .before .before .before .before .before .before .before .before .before .step3 .given .1) at (c .before .before .before .before .before .before .before .before .before .before .before .before .before .before .before .before .before .before .pre .1)) (c .before .before .before .put-argument-faults .ensures))
+put-placeholder-requires : tie.Need-put-placeholder-requires
+put-placeholder-requires c κs =
+    let s = c .before .before .before .before .before .before .before .before in
+    (s .pre .0, rw (c .before .before .before .step3 .given .1) at (s .pre .1))
 
 returns : tie.Need-returns
 returns c =
@@ -61,7 +46,7 @@ returns c =
     rw (c .enum-told .given .1) (stepped-end (now (a .text)) (a .frame))
 
 same-length : tie.Need-same-length
-same-length c = search needs
+same-length c = c .before .errors .given
 
 returns-2 : tie.Need-returns-2
 returns-2 c =
@@ -69,7 +54,7 @@ returns-2 c =
     rw (c .before .before .before .before .before .step .given .1) (stepped-stop (now (a .text)) (a .frame) (c .before .before .put-fault .ensures))
 
 same-length-2 : tie.Need-same-length-2
-same-length-2 c = search needs
+same-length-2 c = c .before .before .pieces .given
 
 returns-3 : tie.Need-returns-3
 returns-3 c =
@@ -77,16 +62,13 @@ returns-3 c =
     rw (c .before .before .before .before .before .before .step2 .given .1) (stepped-literal (now (a .text)) (a .frame) (c .one-more .ensures) (c .before .before .before .put-literal .ensures))
 
 same-length-3 : tie.Need-same-length-3
-same-length-3 c = search needs
+same-length-3 c = c .before .before .before .pieces2 .given
 
 same-length-4 : tie.Need-same-length-4
-same-length-4 c = search needs
+same-length-4 c = c .before .errors2 .given
 
 returns-4 : tie.Need-returns-4
-returns-4 c =
-    let a = c .before .before .before .before .before .before .before .before .before .before .before .before .before .before .before .before .before .before .before .before .before .args in
-    rw (c .before .before .before .before .before .before .before .before .before .before .before .before .before .before .before .before .step3 .given .1)
-    (stepped-placeholder (now (a .text)) (a .frame) (c .before .before .before .before .before .before .before .one-more2 .ensures) (rw (c .before .before .before .before .before .before .before .before .before .before .before .before .before .before .before .before .step3 .given .1) at (c .before .before .before .before .before .before .before .before .before .before .before .before .before .before .before .before .before .before .before .before .before .pre .1)) (c .before .before .before .before .before .before .put-argument-faults .ensures) (c .before .before .before .before .before .before .before .before .before .before .before .put-argument .ensures) (c .before .before .put-closing-faults .ensures))
+returns-4 c = rw (c .before .before .before .before .before .before .before .before .step3 .given .1) (c .before .before .before .before .put-placeholder .ensures)
 
 pub put-step-spec : {M : Type 1} → statement M
 put-step-spec =
@@ -99,10 +81,7 @@ put-step-spec =
     put-literal-requires
     one-more-requires
     enum-known-step-3
-    put-argument-requires
-    one-more-requires-2
-    put-argument-faults-requires
-    put-closing-faults-requires
+    put-placeholder-requires
     returns
     same-length
     returns-2

@@ -1,10 +1,8 @@
 -- `fills::turns::put_told` meets its contract: the head, and then the spec if there is a colon.
 use borrow.Author.Needs.{needs}
-use mathlib.Core.Path.{_∙_, ap}
 use borrow.Author.Tests.{not-true, not-false}
 use denote.Ref.{now}
 use Prim.Native.Nat.{_*_}
-use Rattle.words.specs.Laid.{laid}
 use Rattle.fills.proofs.Telling.{bare-whole, told-laid}
 use Rattle.fills.proofs.turns.put_told.Statement.{statement}
 use Rattle.fills.proofs.turns.put_told.Tie as tie
@@ -21,8 +19,8 @@ same-length c = search needs
 returns : tie.Need-returns
 returns c =
     let a = c .before .before .before .before .before .before .before .before .before .before .args in
-    (rw (c .before .before .before .before .before .before .after-star .ensures) at (c .before .before .put-bare .ensures))
-    ∙ ap (laid (now (a .out)) (40 * a .n)) (bare-whole (now (a .text)) (a .frame) (a .brace) (a .told) (a .next) (not-true _ (c .before .before .before .before .if1 .taken)))
+    let whole = bare-whole (now (a .text)) (a .frame) (a .brace) (a .told) (a .next) (not-true _ (c .before .before .before .before .if1 .taken)) in
+    rw (c .before .before .before .before .before .before .after-star .ensures, whole) at (c .before .before .put-bare .ensures)
 
 mul-k : tie.Need-mul-k
 mul-k c = search needs

@@ -1,6 +1,7 @@
 -- `fills::turns::put_told_spec` meets its contract: its parts, one after another.
 use borrow.Author.Needs.{needs}
 use native.Mathlib.Omega.{arith}
+use mathlib.Core.Path.{_∙_}
 use denote.Ref.{now}
 use Rattle.fills.proofs.Telling.{spec-laid}
 use Rattle.fills.proofs.turns.put_told_spec.Statement.{statement}
@@ -27,27 +28,28 @@ bit-requires-2 c κs = search needs
 put4-requires : tie.Need-put4-requires
 put4-requires c κs = search needs
 
+add-put-told-width : tie.Need-add-put-told-width
+add-put-told-width c = search needs
+
+put-told-width-requires : tie.Need-put-told-width-requires
+put-told-width-requires c κs = search needs
+
 add-put-told-count : tie.Need-add-put-told-count
 add-put-told-count c = search needs
 
 put-told-count-requires : tie.Need-put-told-count-requires
 put-told-count-requires c κs = search needs
 
-add-put-told-count-2 : tie.Need-add-put-told-count-2
-add-put-told-count-2 c = search needs
-
-put-told-count-requires-2 : tie.Need-put-told-count-requires-2
-put-told-count-requires-2 c κs = search needs
-
 add-put-told-kind : tie.Need-add-put-told-kind
 add-put-told-kind c =
     omega (arith, c .before .before .before .before .before .before .before .before .before .before .before .before .before .before .before .before .before .before .before .before .before .before .before .before .before .before .pre .3, c .before .before .before .before .before .before .before .before .before .before .before .before .before .before .before .before .before .before .before .before .before .before .before .before .before .before .good)
 
 put-told-kind-requires : tie.Need-put-told-kind-requires
-put-told-kind-requires c κs = search needs
+put-told-kind-requires c κs =
+    (c .before .before .before .before .before .before .before .before .before .before .before .before .before .before .before .before .before .before .before .before .before .before .before .before .before .before .pre .0, omega (arith, c .before .before .before .before .before .before .before .before .before .before .before .before .before .before .before .before .before .before .before .before .before .before .before .before .before .before .pre .3, c .before .before .before .before .before .before .before .before .before .before .before .before .before .before .before .before .before .before .out .given, c .before .before .before .before .before .before .before .before .before .before .out2 .given, c .before .before .before .before .before .before .out3 .given, c .before .before .out4 .given))
 
 same-length : tie.Need-same-length
-same-length c = search needs
+same-length c = c .before .out5 .given ∙ c .before .before .before .before .before .out4 .given ∙ c .before .before .before .before .before .before .before .before .before .out3 .given ∙ c .before .before .before .before .before .before .before .before .before .before .before .before .before .out2 .given ∙ c .before .before .before .before .before .before .before .before .before .before .before .before .before .before .before .before .before .before .before .before .before .out .given
 
 returns : tie.Need-returns
 returns c =
@@ -55,7 +57,7 @@ returns c =
     let a = s .args in
     spec-laid (now (a .text)) (a .frame) (a .at) (a .next) (a .spec) (now (a .out)) (a .k) (s .pre .3) (c .before .before .before .before .before .before .before .before .before .before .before .before .before .before .before .before .before .before .before .before .before .before .put-told-fill .ensures)
     (rw (c .before .before .before .before .before .before .before .before .before .before .before .before .before .before .before .before .before .before .align-word .ensures, c .before .before .before .before .before .before .before .before .before .before .before .before .before .before .before .before .before .sign-word .ensures, c .before .before .before .before .before .before .before .before .before .before .before .before .before .before .before .before .bit .ensures, c .before .before .before .before .before .before .before .before .before .before .before .before .before .before .before .bit2 .ensures) at (c .before .before .before .before .before .before .before .before .before .before .before .before .before .before .put4 .ensures))
-    (c .before .before .before .before .before .before .before .before .before .before .put-told-count .ensures) (c .before .before .before .before .before .before .put-told-count2 .ensures) (c .before .before .put-told-kind .ensures)
+    (c .before .before .before .before .before .before .before .before .before .before .put-told-width .ensures) (c .before .before .before .before .before .before .put-told-count .ensures) (c .before .before .put-told-kind .ensures)
 
 pub put-told-spec-spec : {M : Type 1} → statement M
 put-told-spec-spec =
@@ -68,10 +70,10 @@ put-told-spec-spec =
     bit-requires
     bit-requires-2
     put4-requires
+    add-put-told-width
+    put-told-width-requires
     add-put-told-count
     put-told-count-requires
-    add-put-told-count-2
-    put-told-count-requires-2
     add-put-told-kind
     put-told-kind-requires
     same-length
