@@ -5,7 +5,6 @@ use mathlib.Core.Bool.{Bool, true, false}
 use mathlib.Core.List.{List, _++_}
 use native.Mathlib.Nat.{mod-eq-of-lt}
 use native.Mathlib.Omega.{arith}
-use lib.ListN.{length}
 use Rattle.unicode.specs.Choice.{pick}
 use Rattle.frame.specs.declared.Span.{Span}
 use Rattle.frame.specs.declared.TextRange.{TextRange}
@@ -20,7 +19,7 @@ use Rattle.placeholder.specs.declared.Sign.{Sign}
 use Rattle.reading.specs.declared.ErrorRecord.{ErrorRecord}
 use Rattle.reading.specs.declared.MaybeRange.{MaybeRange}
 use Rattle.reading.specs.declared.Piece.{Piece}
-use Rattle.words.specs.Layout.{lowOf, four, bitOf, alignOf, signOf, hexOf, placeTag, placeWords, fillWords, spanWords, countData, nameSpanEnd, rangeWords, headWords, specWords, argumentWords, zeros, literalWords, pieceWords, errorWords}
+use Rattle.words.specs.Layout.{lowOf, four, bitOf, alignOf, signOf, hexOf, placeTag, placeWords, fillWords, spanWords, countData, nameSpanEnd, rangeWords, headWords, specWords, argumentWords, literalWords, pieceWords, errorWords}
 use Rattle.back.specs.Back.{word, rangeAt, spanAt, bitFrom, alignFrom, signFrom, hexFrom, maybeSpanAt, maybeRangeAt, fillAt, placeAt, countAt, specFrom, argumentFrom, pieceFrom, errorFrom, Below, RangeFits, SpanFits, MaybeSpanFits, MaybeRangeFits, FillFits, PlaceFits, CountFits, SpecFits, ArgumentFits, Fits, ErrorFits}
 
 -- a number that fits is its low 32 bits

@@ -8,14 +8,12 @@ use Rattle.frame.specs.declared.TextPlace.{TextPlace}
 use Rattle.frame.specs.declared.Frame.{Frame}
 use Rattle.scan.specs.Characters.{spacesPast, consumed}
 use Rattle.scan.specs.Ends.{spanAcross}
-use Rattle.scan.specs.declared.Fault.{Fault}
 use Rattle.placeholder.specs.Arguments.{argumentRead}
 use Rattle.closing.specs.Defaults.{isIdentifier}
 use Rattle.closing.specs.Recovery.{because, expectedAt, textTaken, recoverRead}
 use Rattle.placeholder.specs.declared.Argument.{Argument}
 use Rattle.placeholder.specs.declared.Mode.{Mode}
 use Rattle.placeholder.specs.declared.between.ArgumentRead.{ArgumentRead}
-use Rattle.closing.specs.declared.recover.Recovery.{Recovery}
 use Rattle.closing.specs.declared.whole.Closing.{Closing}
 use Rattle.closing.specs.declared.whole.PlaceholderRead.{PlaceholderRead}
 

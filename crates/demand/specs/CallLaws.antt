@@ -15,7 +15,6 @@ use Rattle.unicode.specs.Choice.{pick}
 use Rattle.unicode.specs.ChoiceLaws.{pick-elim}
 use Rattle.unicode.specs.DecodeLaws.{sequence-room}
 use Rattle.unicode.specs.Utf8.{sequenceAt, valid, validPrefix}
-use Rattle.frame.specs.declared.Span.{Span}
 use Rattle.reading.specs.Lists.{pieces, errors, places, lines, countsOf}
 use Rattle.reading.specs.declared.Piece.{Piece}
 use Rattle.reading.specs.declared.ErrorRecord.{ErrorRecord}

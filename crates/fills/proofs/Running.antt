@@ -26,11 +26,12 @@ use Rattle.words.specs.Laid.{laid}
 use Rattle.words.specs.LaidLaws.{laid-length, laid-on, pieceWords-length}
 use Rattle.words.specs.Layout.{pieceWords, errorWords}
 use Rattle.fills.specs.Filling.{piecesIn, errorsIn, Fills}
-use Rattle.fills.specs.Turning.{Noted, notedBy, notes, fronts, backs, StepRoom, Stepped, Turned, fresh, slots, Ran}
-use Rattle.fills.specs.declared.turns.Marks.{Marks}
-use Rattle.fills.specs.declared.turns.Turn.{Turn}
-use Rattle.fills.proofs.Overlays.{laid-none, laid-first, over-again, gather-length}
-use Rattle.fills.proofs.Noting.{front-more, front-same, back-more, back-same, Left, left-first, left-on, left-room, inWords, words-more, words-none, words-length, Counted, notes-counted, notes-placed}
+use Rattle.plain.specs.Turning.{Noted, notedBy, notes, fronts, backs, StepRoom, Stepped, Turned}
+use Rattle.fills.specs.Lane.{fresh, slots, Ran}
+use Rattle.plain.specs.declared.Marks.{Marks}
+use Rattle.plain.specs.declared.Turn.{Turn}
+use Rattle.plain.proofs.Overlays.{laid-none, laid-first, over-again, gather-length}
+use Rattle.plain.proofs.Noting.{front-more, front-same, back-more, back-same, Left, left-first, left-on, left-room, inWords, words-more, words-none, words-length, Counted, notes-counted, notes-placed}
 
 -- HOW MANY: each of some faults goes to the front or to the back
 parts-length : (xs : List Fault) → length (frontOnly xs) + length (backOnly xs) ≡ length xs

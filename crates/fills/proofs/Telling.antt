@@ -28,7 +28,7 @@ use Rattle.words.specs.Laid.{laid}
 use Rattle.words.specs.LaidLaws.{laid-on, fillWords-length, placeWords-length, countWords-length, specWords-length, zeros-length}
 use Rattle.words.specs.Layout.{lowOf, four, none, bitOf, alignOf, signOf, placeTag, placeWords, fillWords, spanWords, countData, nameSpanEnd, countWords, headWords, specWords, argumentWords, zeros}
 use Rattle.words.proofs.Laying.{laying-first, laying-on, laying-last}
-use Rattle.fills.specs.Turning.{placeOf, toldHead, nameWords}
+use Rattle.fills.specs.Lane.{placeOf, toldHead, nameWords}
 
 -- NUMBERS OF ARGUMENTS: a star takes one at most
 pub star-few : (n : ℕ) (p : Part) → afterStar n p ≤ n + 1

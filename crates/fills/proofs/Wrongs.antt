@@ -28,9 +28,10 @@ use Rattle.quick.specs.declared.Hint.{Hint}
 use Rattle.quick.specs.declared.Told.{Told}
 use Rattle.words.specs.Laid.{laid}
 use Rattle.words.specs.Layout.{errorWords, bareError}
-use Rattle.fills.specs.Turning.{toldFill, missingTold, toldSlots, silent, Flawless, notedBy, notes, Room, Notes, BackRoom, BackNotes}
-use Rattle.fills.specs.declared.turns.Marks.{Marks}
-use Rattle.fills.proofs.Noting.{back-backs, back-fronts, front-fronts, room-before, same-notes, same-backs, same-backs-notes, put-clean, put-back, put-front, put-apart, notes-then, room-then, back-clean, back-one, back-room, back-before, back-after, backs-then}
+use Rattle.plain.specs.Turning.{notedBy, notes, Room, Notes, BackRoom, BackNotes}
+use Rattle.fills.specs.Lane.{toldFill, missingTold, toldSlots, silent, Flawless}
+use Rattle.plain.specs.declared.Marks.{Marks}
+use Rattle.plain.proofs.Noting.{back-backs, back-fronts, front-fronts, room-before, same-notes, same-backs, same-backs-notes, put-clean, put-back, put-front, put-apart, notes-then, room-then, back-clean, back-one, back-room, back-before, back-after, backs-then}
 
 -- THE WORD `_` between two bytes: nothing is written where it does not stand there, else a record of the back
 module _ (t : List ℕ) (f : Frame) (high : ℕ) (es : List ℕ) (b : Bool) (from to : ℕ) where

@@ -1,3 +1,3 @@
 -- What a text's filled lists hold.
 pub mod Filling
-pub mod Turning
+pub mod Lane

@@ -1,16 +1,17 @@
 // A text's pieces and error records, written over the first numbers of two lent lists.
-use crate::turns::Marks;
 use crate::turns::next_turn;
 use frame::Frame;
 use frame::TextPlace;
 use placeholder::Mode;
+use plain::Marks;
 use reading::State;
 ghost use Prim.Native.Nat.{_*_, _≤_};
 ghost use lib.ListN.{length};
 ghost use Rattle.frame.specs.Spans.{Small};
 ghost use Rattle.reading.specs.Lists.{pieces as piecesOf, errors as errorsOf};
 ghost use Rattle.fills.specs.Filling.{Fills};
-ghost use Rattle.fills.specs.Turning.{fronts as frontsOf, slots, Ran};
+ghost use Rattle.plain.specs.Turning.{fronts as frontsOf};
+ghost use Rattle.fills.specs.Lane.{slots, Ran};
 
 // How many pieces and error records a text has.
 pub struct Filled {

@@ -9,7 +9,6 @@ use native.Mathlib.Omega.{arith}
 use borrow.Author.Tests.{eqb-true, eq-eqb}
 use lib.ListN.{length}
 use lib.Dec.{eqb}
-use Rattle.unicode.specs.Choice.{both}
 use Rattle.unicode.specs.ChoiceLaws.{both-left, both-right}
 use Rattle.frame.specs.declared.Style.{Style}
 use Rattle.frame.specs.declared.Style.the-variants.{Plain, Raw}

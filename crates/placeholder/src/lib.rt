@@ -1,6 +1,5 @@
 // What stands between two braces: a place, a spec in each mode's grammar, and what is found wrong there.
 use frame::Span;
-use frame::TextPlace;
 use frame::TextRange;
 use scan::Count;
 use scan::Fault;

@@ -4,7 +4,6 @@ use Prim.Native.Nat.{ℕ}
 use mathlib.Core.Path.{_≡_, refl}
 use mathlib.Core.Bool.{Bool, true, false}
 use mathlib.Core.List.{List, [], _∷_}
-use lib.ListN.{length}
 use Rattle.unicode.specs.Choice.{pick, within}
 use Rattle.unicode.specs.Table.{member}
 use Rattle.unicode.specs.Start.{start}
@@ -33,7 +32,6 @@ use Rattle.placeholder.specs.Arguments.{argumentRead}
 use Rattle.closing.specs.Defaults.{noMarks, noCounts, isDefault, isIdentifier}
 use Rattle.closing.specs.Recovery.{expectedAt, afterQuestion, signHint, fieldRead, recoverRead}
 use Rattle.closing.specs.Wholes.{missingRead, placeholderRead}
-use Rattle.placeholder.specs.declared.Argument.{Argument}
 use Rattle.placeholder.specs.declared.Fill.{Fill}
 use Rattle.placeholder.specs.declared.MaybeSpan.{MaybeSpan}
 use Rattle.placeholder.specs.declared.Mode.{Mode}

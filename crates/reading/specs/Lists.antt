@@ -14,7 +14,6 @@ use Rattle.scan.specs.Ends.{spanAcross}
 use Rattle.scan.specs.declared.Fault.{Fault}
 use Rattle.placeholder.specs.declared.Mode.{Mode}
 use Rattle.closing.specs.declared.whole.Closing.{Closing}
-use Rattle.closing.specs.declared.whole.PlaceholderRead.{PlaceholderRead}
 use Rattle.reading.specs.Steps.{reading}
 use Rattle.reading.specs.Faults.{faultsOf}
 use Rattle.reading.specs.Records.{isFront, recordOf}

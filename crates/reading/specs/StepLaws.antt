@@ -2,7 +2,7 @@
 -- whole: one more turn would add nothing, and the last step is the end or a lone `}`.
 -- Rests on Steps, and on the laws of where `scan` and `placeholder` stop.
 use Prim.Native.Nat.{ℕ, zero, suc, _+_, _-_, _≤_, _<_}
-use mathlib.Core.Path.{_≡_, refl, ap, subst}
+use mathlib.Core.Path.{_≡_, refl, subst}
 use mathlib.Core.Bool.{true, false}
 use mathlib.Core.List.{List, [], _∷_}
 use native.Mathlib.Omega.{arith}
@@ -13,13 +13,11 @@ use Rattle.unicode.specs.ChoiceLaws.{pick-elim}
 use Rattle.unicode.specs.CharLaws.{end-past}
 use Rattle.unicode.specs.declared.Seen.{Seen}
 use Rattle.frame.specs.declared.TextPlace.{TextPlace}
-use Rattle.frame.specs.declared.TextRange.{TextRange}
 use Rattle.frame.specs.declared.Frame.{Frame}
 use Rattle.scan.specs.Characters.{sees, isAt, consumed, isPlain, textEnd}
 use Rattle.scan.specs.ScanLaws.{seen-elim, consumed-on, consumed-in, consumed-some, text-on, text-in, text-some}
 use Rattle.closing.specs.OnwardLaws.{placeholder-on, placeholder-in, placeholder-next}
 use Rattle.placeholder.specs.declared.Mode.{Mode}
-use Rattle.closing.specs.declared.whole.PlaceholderRead.{PlaceholderRead}
 use Rattle.reading.specs.Steps.{afterOpen, afterClose, stepAt, onward, follow, stepsFrom, start, reading}
 use Rattle.reading.specs.declared.State.{State}
 use Rattle.reading.specs.declared.Step.{Step}

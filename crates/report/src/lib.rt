@@ -1,6 +1,5 @@
 // What a program writes of a call: the lists are made here, lent to the reader, and listed, a line for each record.
 // Every function takes the output's buffer and how much of it is used, and gives how much is used afterwards (listing).
-use answer::Answer;
 use answer::Request;
 use answer::Rooms;
 use frame::SnippetPlace;
@@ -8,7 +7,6 @@ use frame::Span;
 use frame::TextPlace;
 use frame::TextRange;
 use placeholder::MaybeSpan;
-use reading::Counts;
 use reading::ErrorRecord;
 use reading::MaybeRange;
 use reading::Piece;

@@ -1,7 +1,6 @@
 -- What the functions that write spans come to, part by part. Rests on reading's Lines and Lists.
 use Prim.Native.Nat.{ℕ, _+_, _*_}
 use mathlib.Core.Path.{_≡_}
-use mathlib.Core.Bool.{Bool}
 use mathlib.Core.List.{List, [], _∷_, _++_}
 use lib.ListN.{length, take, drop}
 use Rattle.unicode.specs.Choice.{pick}

@@ -1,7 +1,7 @@
 -- What one step does to the pieces and the faults that are left at a cursor. Rests on Turns, TurnLaws and reading's WalkLaws.
-use Prim.Native.Nat.{ℕ, zero, suc, _+_, _-_, _*_, _≤_, _<_}
-use mathlib.Core.Path.{_≡_, refl, sym, ap, _∙_}
-use mathlib.Core.Bool.{Bool, true, false, true≢false}
+use Prim.Native.Nat.{ℕ, zero, suc, _+_, _-_, _≤_, _<_}
+use mathlib.Core.Path.{_≡_, refl}
+use mathlib.Core.Bool.{true, false, true≢false}
 use mathlib.Core.List.{List, [], _∷_, _++_}
 use native.Mathlib.Nat.{le-trans}
 use native.Mathlib.Omega.{arith}
@@ -13,15 +13,14 @@ use Rattle.scan.specs.declared.Fault.{Fault}
 use Rattle.closing.specs.Recovery.{isClean}
 use Rattle.placeholder.specs.declared.Mode.{Mode}
 use Rattle.closing.specs.declared.whole.Closing.{Closing}
-use Rattle.closing.specs.declared.whole.PlaceholderRead.{PlaceholderRead}
-use Rattle.reading.specs.Steps.{stepAt, onward, stepsFrom}
+use Rattle.reading.specs.Steps.{stepAt, onward}
 use Rattle.reading.specs.StepLaws.{steps-none}
-use Rattle.reading.specs.Faults.{argumentSlots, missingSlots, closingSlots, stepSlots, wrong, faultsOf}
+use Rattle.reading.specs.Faults.{argumentSlots, missingSlots, closingSlots, stepSlots, wrong}
 use Rattle.reading.specs.Lists.{gather, piecesOf}
 use Rattle.reading.specs.declared.State.{State}
 use Rattle.reading.specs.declared.Step.{Step}
 use Rattle.reading.specs.declared.Onward.{Onward}
-use Rattle.turns.specs.Turns.{Fresh, stepsAt, pieceOf, piecesAt, faultsIn, faultsAt, notes, FaultNext, FirstWrong}
+use Rattle.turns.specs.Turns.{Fresh, pieceOf, piecesAt, faultsAt, notes, FaultNext, FirstWrong}
 use Rattle.turns.specs.TurnLaws.{faults-first}
 use Rattle.turns.specs.declared.Cursor.{Cursor}
 use Rattle.turns.specs.declared.FaultTurn.{FaultTurn}

@@ -11,11 +11,10 @@ use Rattle.unicode.specs.ChoiceLaws.{pick-elim}
 use Rattle.frame.specs.declared.Frame.{Frame}
 use Rattle.scan.specs.declared.Fault.{Fault}
 use Rattle.placeholder.specs.declared.Mode.{Mode}
-use Rattle.reading.specs.Steps.{reading, stepsFrom}
+use Rattle.reading.specs.Steps.{reading}
 use Rattle.reading.specs.Faults.{faultsOf}
 use Rattle.reading.specs.Records.{isFront, recordOf}
 use Rattle.reading.specs.Lists.{gather, pieces, faults, errors, frontOnly, backOnly, reversed, listed, records}
-use Rattle.reading.specs.ListLaws.{errors-length}
 use Rattle.reading.specs.declared.Step.{Step}
 use Rattle.reading.specs.declared.ErrorRecord.{ErrorRecord}
 use Rattle.turns.specs.Turns.{Fresh, firstCursor, stepsAt, piecesAt, faultsIn, faultsAt, Note, notes, posted}

@@ -1,7 +1,7 @@
 -- A run over the steps of a text, a piece or a fault at a time: what is left to come at a cursor.
 use Prim.Native.Nat.{ℕ, _+_, _*_, _≤_, _<_}
 use mathlib.Core.Path.{_≡_}
-use mathlib.Core.Bool.{Bool, true, false}
+use mathlib.Core.Bool.{Bool, false}
 use mathlib.Core.List.{List, [], _∷_, _++_}
 use lib.ListN.{length, drop, getD}
 use Rattle.unicode.specs.Choice.{pick}
@@ -10,7 +10,7 @@ use Rattle.frame.specs.declared.Frame.{Frame}
 use Rattle.scan.specs.declared.Fault.{Fault}
 use Rattle.closing.specs.Recovery.{isClean}
 use Rattle.placeholder.specs.declared.Mode.{Mode}
-use Rattle.reading.specs.Steps.{start, stepAt, stepsFrom}
+use Rattle.reading.specs.Steps.{start, stepsFrom}
 use Rattle.reading.specs.Faults.{stepSlots, wrong, faultsOf}
 use Rattle.reading.specs.Records.{isFront, recordOf}
 use Rattle.reading.specs.Lists.{gather, piecesOf}

@@ -1,10 +1,10 @@
 -- Numbers laid over a list: the list keeps its length, and what is laid one after another is laid as one. Then how many numbers
 -- each part of a record has. Rests on Laid and Layout.
-use Prim.Native.Nat.{ℕ, _+_, _≤_, _<_}
+use Prim.Native.Nat.{ℕ, _+_, _≤_}
 use mathlib.Core.Path.{_≡_, refl, sym, ap, _∙_}
-use mathlib.Core.List.{List, [], _∷_, _++_, append-assoc}
+use mathlib.Core.List.{List, _++_, append-assoc}
 use native.Mathlib.Omega.{arith}
-use lib.ListN.{length, take, drop, set, length-append, length-drop}
+use lib.ListN.{length, take, drop, length-append, length-drop}
 use lib.Seq.{sets, sets-eq, length-take-le, take-at, drop-at, drop-drop}
 use Rattle.frame.specs.declared.Span.{Span}
 use Rattle.frame.specs.declared.TextRange.{TextRange}

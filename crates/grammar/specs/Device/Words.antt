@@ -8,7 +8,7 @@ use native.Mathlib.Nat.{add-assoc, mod-eq-of-lt}
 use native.Mathlib.Omega.{arith}
 use borrow.Author.Tests.{eq-eqb, ne-eqb, leb-true, leb-false, lt-ltb, le-ltb}
 use lib.Dec.{eqb, leb, ltb}
-use Rattle.unicode.specs.Choice.{pick, both}
+use Rattle.unicode.specs.Choice.{pick}
 use Rattle.unicode.specs.ChoiceLaws.{both-false}
 use Rattle.unicode.specs.Chars.{charsFrom, takeWhile, runEnd}
 use Rattle.unicode.specs.Questions.{isStart, isContinue}

@@ -1,6 +1,5 @@
 -- `scan::string_end` meets its contract: past the end there is no literal text; else the first brace within sixteen bytes, or the first
 -- from past the blocks on, is where the run of plain characters ends.
-use borrow.Author.Needs.{needs}
 use mathlib.Core.Path.{sym, _∙_, ap}
 use native.Mathlib.Omega.{arith}
 use denote.Ref.{now}

@@ -4,11 +4,10 @@ use Prim.Native.Nat.{_+_, _*_, _≤_}
 use borrow.Author.Needs.{needs}
 use borrow.Author.Tests.{not-true, not-false}
 use native.Mathlib.Omega.{arith}
-use mathlib.Core.Path.{_≡_, refl, sym, ap, _∙_}
+use mathlib.Core.Path.{refl, sym, ap, _∙_}
 use mathlib.Core.List.{[]}
 use denote.Ref.{now}
-use lib.ListN.{length}
-use Rattle.reading.specs.Steps.{follow, stepsFrom, onward, reading}
+use Rattle.reading.specs.Steps.{stepsFrom, reading}
 use Rattle.reading.specs.StepLaws.{steps-none}
 use Rattle.reading.specs.Lists.{gather, placesOf, places}
 use Rattle.reading.specs.Written.{over, pairs}

@@ -1,15 +1,14 @@
 -- `spans::put_part` meets its contract. The invariant: with the lines of the characters that are left the list is as it is to be,
 -- and the line after them starts where it is to. The measure is what is left of the part.
-use Prim.Native.Nat.{_+_, _-_, _*_, _≤_}
+use Prim.Native.Nat.{_+_, _-_}
 use borrow.Author.Needs.{needs}
 use native.Mathlib.Omega.{arith}
 use mathlib.Core.Path.{sym, _∙_}
 use mathlib.Core.List.{[], _∷_}
 use denote.Ref.{now}
-use lib.ListN.{length}
 use Rattle.unicode.specs.Chars.{ch, charsFrom}
 use Rattle.unicode.specs.CharLaws.{peeked}
-use Rattle.reading.specs.Lines.{before, charsIn, endedLines}
+use Rattle.reading.specs.Lines.{before, charsIn}
 use Rattle.reading.specs.LineLaws.{before-more, before-past, before-end}
 use Rattle.spans.proofs.Lining.{Lining, lining-first, lining-done, lining-room, lining-on}
 use Rattle.spans.proofs.put_part.Statement.{statement}

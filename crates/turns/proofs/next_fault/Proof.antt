@@ -1,6 +1,6 @@
 -- `turns::next_fault` meets its contract. The invariant: the faults from the slot at hand on are those from the first slot on.
 -- The measure is how many steps are left: a step with no further fault is passed.
-use Prim.Native.Nat.{_≤_, _<_}
+use Prim.Native.Nat.{_≤_}
 use borrow.Author.Needs.{needs}
 use native.Mathlib.Omega.{arith}
 use mathlib.Core.Path.{_≡_, refl, sym, ap, _∙_}

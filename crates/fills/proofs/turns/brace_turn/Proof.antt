@@ -4,7 +4,8 @@ use native.Mathlib.Omega.{arith}
 use mathlib.Core.Path.{_∙_}
 use denote.Ref.{now}
 use Rattle.placeholder.specs.declared.Mode.{Mode}
-use Rattle.fills.proofs.Stepping.{argument-room, told-room, stepped-told, told-on, told-sound, step-told, turned-on}
+use Rattle.plain.proofs.Stepping.{argument-room, turned-on}
+use Rattle.fills.proofs.Stepping.{told-room, stepped-told, told-on, told-sound, step-told}
 use Rattle.fills.proofs.turns.brace_turn.Statement.{statement}
 use Rattle.fills.proofs.turns.brace_turn.Tie as tie
 

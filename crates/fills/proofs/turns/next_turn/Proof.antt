@@ -6,7 +6,8 @@ use denote.Ref.{now}
 use Rattle.frame.specs.Places.{rangeOf}
 use Rattle.frame.specs.declared.TextPlace.{TextPlace}
 use Rattle.reading.specs.declared.Step.{Step}
-use Rattle.fills.proofs.Stepping.{stepped-end, literal-room, stepped-literal, step-end, step-literal, turned-on, turned-over}
+use Rattle.plain.proofs.Stepping.{stepped-end, literal-room, stepped-literal, turned-on, turned-over}
+use Rattle.fills.proofs.Stepping.{step-end, step-literal}
 use Rattle.fills.proofs.turns.next_turn.Statement.{statement}
 use Rattle.fills.proofs.turns.next_turn.Tie as tie
 

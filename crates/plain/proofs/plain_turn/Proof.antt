@@ -1,10 +1,10 @@
--- `fills::turns::plain_turn` meets its contract: the step there is written, and reading goes on after it.
+-- `plain::plain_turn` meets its contract: the step there is written, and reading goes on after it.
 use borrow.Author.Needs.{needs}
 use mathlib.Core.Path.{sym, _∙_}
 use denote.Ref.{now}
-use Rattle.fills.proofs.Stepping.{turned-on, turned-over}
-use Rattle.fills.proofs.turns.plain_turn.Statement.{statement}
-use Rattle.fills.proofs.turns.plain_turn.Tie as tie
+use Rattle.plain.proofs.Stepping.{turned-on, turned-over}
+use Rattle.plain.proofs.plain_turn.Statement.{statement}
+use Rattle.plain.proofs.plain_turn.Tie as tie
 
 step-at-requires : tie.Need-step-at-requires
 step-at-requires c κs = search needs

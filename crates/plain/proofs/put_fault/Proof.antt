@@ -1,12 +1,12 @@
--- `fills::turns::put_fault` meets its contract: nothing where nothing is wrong, else one record, by where it goes and whether there is room before the others.
+-- `plain::put_fault` meets its contract: nothing where nothing is wrong, else one record, by where it goes and whether there is room before the others.
 use borrow.Author.Needs.{needs}
 use native.Mathlib.Omega.{arith}
 use mathlib.Core.Path.{sym, _∙_}
 use borrow.Author.Tests.{not-true, not-false}
 use denote.Ref.{now}
-use Rattle.fills.proofs.Noting.{put-clean, room-back, room-front, put-back, put-front, put-apart}
-use Rattle.fills.proofs.turns.put_fault.Statement.{statement}
-use Rattle.fills.proofs.turns.put_fault.Tie as tie
+use Rattle.plain.proofs.Noting.{put-clean, room-back, room-front, put-back, put-front, put-apart}
+use Rattle.plain.proofs.put_fault.Statement.{statement}
+use Rattle.plain.proofs.put_fault.Tie as tie
 
 is-clean-requires : tie.Need-is-clean-requires
 is-clean-requires c κs = search needs

@@ -1,11 +1,10 @@
--- `fills::turns::put_step` meets its contract: each kind of step, its piece and its records.
+-- `plain::put_step` meets its contract: each kind of step, its piece and its records.
 use borrow.Author.Needs.{needs}
 use native.Mathlib.Omega.{arith}
-use mathlib.Core.Path.{_∙_}
 use denote.Ref.{now}
-use Rattle.fills.proofs.Stepping.{stepped-end, stop-room, stepped-stop, literal-room, stepped-literal}
-use Rattle.fills.proofs.turns.put_step.Statement.{statement}
-use Rattle.fills.proofs.turns.put_step.Tie as tie
+use Rattle.plain.proofs.Stepping.{stepped-end, stop-room, stepped-stop, literal-room, stepped-literal}
+use Rattle.plain.proofs.put_step.Statement.{statement}
+use Rattle.plain.proofs.put_step.Tie as tie
 
 enum-told : tie.Need-enum-told
 enum-told c = search needs

@@ -1,13 +1,13 @@
--- `fills::turns::put_closing_faults` meets its contract: where the brace is missing, its faults, one after the other.
+-- `plain::put_closing_faults` meets its contract: where the brace is missing, its faults, one after the other.
 use borrow.Author.Needs.{needs}
 use mathlib.Core.Path.{refl, _∙_}
 use mathlib.Core.List.{[], _∷_}
 use denote.Ref.{now}
 use Rattle.reading.specs.Faults.{argumentSlots, missingSlots, closingSlots}
-use Rattle.fills.specs.Turning.{notes}
-use Rattle.fills.proofs.Noting.{room-before, notes-then, room-then}
-use Rattle.fills.proofs.turns.put_closing_faults.Statement.{statement}
-use Rattle.fills.proofs.turns.put_closing_faults.Tie as tie
+use Rattle.plain.specs.Turning.{notes}
+use Rattle.plain.proofs.Noting.{room-before, notes-then, room-then}
+use Rattle.plain.proofs.put_closing_faults.Statement.{statement}
+use Rattle.plain.proofs.put_closing_faults.Tie as tie
 
 enum-told : tie.Need-enum-told
 enum-told c = search needs

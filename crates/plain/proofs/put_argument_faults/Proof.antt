@@ -1,11 +1,11 @@
--- `fills::turns::put_argument_faults` meets its contract: its five faults, one after the other.
+-- `plain::put_argument_faults` meets its contract: its five faults, one after the other.
 use mathlib.Core.Path.{_∙_}
 use mathlib.Core.List.{[], _∷_}
 use denote.Ref.{now}
 use Rattle.reading.specs.Faults.{argumentSlots}
-use Rattle.fills.proofs.Noting.{room-before, notes-then, room-then}
-use Rattle.fills.proofs.turns.put_argument_faults.Statement.{statement}
-use Rattle.fills.proofs.turns.put_argument_faults.Tie as tie
+use Rattle.plain.proofs.Noting.{room-before, notes-then, room-then}
+use Rattle.plain.proofs.put_argument_faults.Statement.{statement}
+use Rattle.plain.proofs.put_argument_faults.Tie as tie
 
 put-fault-requires : tie.Need-put-fault-requires
 unfolding argumentSlots

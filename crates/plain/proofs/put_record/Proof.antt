@@ -1,7 +1,7 @@
--- `fills::turns::put_record` meets its contract: the fault's record, put.
+-- `plain::put_record` meets its contract: the fault's record, put.
 use borrow.Author.Needs.{needs}
-use Rattle.fills.proofs.turns.put_record.Statement.{statement}
-use Rattle.fills.proofs.turns.put_record.Tie as tie
+use Rattle.plain.proofs.put_record.Statement.{statement}
+use Rattle.plain.proofs.put_record.Tie as tie
 
 record-of-requires : tie.Need-record-of-requires
 record-of-requires c κs = search needs

@@ -1,10 +1,10 @@
--- `fills::turns::put_placeholder` meets its contract: its argument, the argument's five faults, and those at its end.
+-- `plain::put_placeholder` meets its contract: its argument, the argument's five faults, and those at its end.
 use native.Mathlib.Omega.{arith}
 use mathlib.Core.Path.{_∙_}
 use denote.Ref.{now}
-use Rattle.fills.proofs.Stepping.{argument-room, faults-room, closing-room, stepped-placeholder}
-use Rattle.fills.proofs.turns.put_placeholder.Statement.{statement}
-use Rattle.fills.proofs.turns.put_placeholder.Tie as tie
+use Rattle.plain.proofs.Stepping.{argument-room, faults-room, closing-room, stepped-placeholder}
+use Rattle.plain.proofs.put_placeholder.Statement.{statement}
+use Rattle.plain.proofs.put_placeholder.Tie as tie
 
 put-argument-requires : tie.Need-put-argument-requires
 put-argument-requires c κs =

@@ -19,9 +19,9 @@ use Rattle.reading.specs.Records.{isFront, recordOf}
 use Rattle.words.specs.Laid.{laid}
 use Rattle.words.specs.LaidLaws.{laid-length, laid-on, errorWords-length}
 use Rattle.words.specs.Layout.{errorWords}
-use Rattle.fills.specs.Turning.{Noted, notedBy, atBack, atFront, counted, note, notes, fronts, backs, Room, Notes, BackRoom, BackNotes}
-use Rattle.fills.specs.declared.turns.Marks.{Marks}
-use Rattle.fills.proofs.Overlays.{laid-none, laid-before}
+use Rattle.plain.specs.Turning.{Noted, notedBy, atBack, atFront, counted, note, notes, fronts, backs, Room, Notes, BackRoom, BackNotes}
+use Rattle.plain.specs.declared.Marks.{Marks}
+use Rattle.plain.proofs.Overlays.{laid-none, laid-before}
 
 -- THE WRONG ONES of some faults and others
 module _ (x : Fault) (xs : List Fault) where
