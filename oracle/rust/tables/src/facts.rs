@@ -2,6 +2,24 @@
 
 use crate::table::Table;
 
+/// Whether a compiler's table is that of another Unicode than the known one: it holds all of the
+/// known characters and more, or nearly all of them and no others. Unicode never takes a character
+/// out of these tables again, so any other difference is a fault.
+pub fn is_another_unicode(compilers: &Table, known: &Table) -> bool {
+    let (here, there) = (compilers.size(), known.size());
+    let newer = there < here && holds(compilers, known);
+    let older = here < there && there / 10 * 9 < here && holds(known, compilers);
+    !counts_known(compilers) && (newer || older)
+}
+
+/// Whether every range of the second table lies within one of the first.
+fn holds(larger: &Table, smaller: &Table) -> bool {
+    smaller
+        .ranges
+        .iter()
+        .all(|&(low, high)| larger.ranges.iter().any(|&(start, end)| start <= low && high <= end))
+}
+
 /// Every fact about one table, or the first that fails.
 pub fn check(table: &Table) -> Result<(), String> {
     let facts = [

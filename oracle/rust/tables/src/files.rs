@@ -12,22 +12,30 @@ const SCALARS: &str = "crates/scalars/stdout";
 const STAND_IN: &str = "oracle/rust/rustc_lexer/src/ranges.rs";
 
 /// Writes every generated file.
-pub fn write(root: &Path) -> Result<(), String> {
-    let tables = table::all();
-    save(root, CONSTANTS, &constants(&tables))?;
-    for table in &tables {
+pub fn write(root: &Path, tables: &[Table]) -> Result<(), String> {
+    save(root, CONSTANTS, &constants(tables))?;
+    for table in tables {
         save(root, &definition_file(table), &definition(table))?;
     }
     save(root, STAND_IN, &stand_in(&tables[1..]))?;
-    save(root, SCALARS, &scalars(&tables))
+    save(root, SCALARS, &scalars(tables))
+}
+
+/// The tables with the identifiers that the stand-in has.
+pub fn stored(root: &Path) -> Result<[Table; 3], String> {
+    let source = load(root, STAND_IN)?;
+    let pairs = |name| {
+        let numbers = hex_numbers(constant_of(&source, name));
+        numbers.chunks_exact(2).map(|pair| (pair[0], pair[1])).collect()
+    };
+    Ok(table::of(pairs("START"), pairs("CONTINUE")))
 }
 
 /// Reads every generated file back and compares its numbers with the tables.
-pub fn check(root: &Path) -> Result<(), String> {
-    let tables = table::all();
+pub fn check(root: &Path, tables: &[Table]) -> Result<(), String> {
     let constants = load(root, CONSTANTS)?;
     let stand_in = load(root, STAND_IN)?;
-    for table in &tables {
+    for table in tables {
         let numbers = table.numbers();
         let definition = load(root, &definition_file(table))?;
         agree(&hex_numbers(constant_of(&constants, table.constant)), &numbers, CONSTANTS)?;
@@ -36,7 +44,7 @@ pub fn check(root: &Path) -> Result<(), String> {
             agree(&hex_numbers(constant_of(&stand_in, table.constant)), &numbers, STAND_IN)?;
         }
     }
-    if load(root, SCALARS)? != scalars(&tables) {
+    if load(root, SCALARS)? != scalars(tables) {
         return Err(format!("{SCALARS} is not the tables' listing"));
     }
     println!("every file has these numbers");

@@ -34,8 +34,13 @@ impl Table {
     }
 }
 
-/// The tables in the order in which they are listed.
-pub fn all() -> [Table; 3] {
+/// The tables in the order in which they are listed, with the compiler's own identifiers.
+pub fn compilers() -> [Table; 3] {
+    of(IDENTIFIERS.0.to_vec(), IDENTIFIERS.1.to_vec())
+}
+
+/// The tables with these identifiers: start, then continuation.
+pub fn of(start: Vec<(u32, u32)>, continuation: Vec<(u32, u32)>) -> [Table; 3] {
     [
         Table {
             word: "space",
@@ -50,7 +55,7 @@ pub fn all() -> [Table; 3] {
             constant: "START",
             file: "Start",
             comment: "Identifier start, `_` or XID_Start: 692 closed ranges, low and high bound in turn.",
-            ranges: IDENTIFIERS.0.to_vec(),
+            ranges: start,
             known: (692, 145_894),
         },
         Table {
@@ -58,7 +63,7 @@ pub fn all() -> [Table; 3] {
             constant: "CONTINUE",
             file: "Continue",
             comment: "Identifier continuation, XID_Continue: 806 closed ranges, low and high bound in turn.",
-            ranges: IDENTIFIERS.1.to_vec(),
+            ranges: continuation,
             known: (806, 149_221),
         },
     ]
