@@ -27,7 +27,7 @@ static void print_place(const nitarehpu_piece_t *piece) {
     }
 }
 
-static void print_count(const char *what, const nitarehpu_count_t *count) {
+static void print_count(const char *what, const nitarehpu_amount_t *count) {
     switch (count->kind) {
     case 0:
         return;

@@ -22,7 +22,7 @@ extern "C" {
 /* mode; any other number is refused with 1 */
 enum { NITAREHPU_FORMAT = 0, NITAREHPU_INLINE_ASM = 1, NITAREHPU_DIAGNOSTIC = 2 };
 
-/* What a call answers. A refusal changes no list of records. Checked in this order, 10 before all. */
+/* What a call answers. A refusal changes no list of records. Checked in this order, 255 before all. */
 enum {
     NITAREHPU_DONE = 0,
     NITAREHPU_MODE = 1,        /* the mode is above 2 */
@@ -34,7 +34,7 @@ enum {
     NITAREHPU_ERRORS = 7,      /* the list of errors is */
     NITAREHPU_PLACES = 8,      /* the list of argument places is */
     NITAREHPU_LINES = 9,       /* the list of line spans is */
-    NITAREHPU_NO_ANSWER = 10   /* the answer's list has no room for its six numbers: nothing was read */
+    NITAREHPU_NO_ANSWER = 255  /* the answer's list has no room for its six numbers: nothing was read, and nothing is written */
 };
 
 /* The answer's six numbers: which of the above, the place (of 4, else 0), and how many records each list needs (for 0 and 6 to 9, else 0). */
@@ -46,7 +46,7 @@ enum { NITAREHPU_PIECE_NUMBERS = 40, NITAREHPU_ERROR_NUMBERS = 16, NITAREHPU_SPA
 /* A span of the snippet that may be absent: present is 0 or 1, and without it start and end are 0. */
 
 /* A width or a precision. */
-typedef struct nitarehpu_count {
+typedef struct nitarehpu_amount {
     uint32_t kind;             /* 0 implied, 1 fixed, 2 by argument (number$), 3 by star, 4 by name (name$) */
     uint32_t value;            /* 1: the number; 2, 3: the argument's number; 4: the name's first byte in the text */
     uint32_t name_end;         /* 4: where the name's bytes end */
@@ -55,7 +55,7 @@ typedef struct nitarehpu_count {
     uint32_t span_present;     /* the whole width, or the precision with its dot */
     uint32_t span_start;
     uint32_t span_end;
-} nitarehpu_count_t;
+} nitarehpu_amount_t;
 
 /* A piece. Of a literal the kind, the start and the end are told, and the rest is 0. */
 typedef struct nitarehpu_piece {
@@ -75,8 +75,8 @@ typedef struct nitarehpu_piece {
     uint32_t sign;             /* 0 none, 1 plus, 2 minus */
     uint32_t alternate;        /* 1 with `#` */
     uint32_t zero;             /* 1 with the flag `0` */
-    nitarehpu_count_t width;
-    nitarehpu_count_t precision;
+    nitarehpu_amount_t width;
+    nitarehpu_amount_t precision;
     uint32_t type_start;       /* the type's bytes in the text; empty where there is none */
     uint32_t type_end;
     uint32_t hex;              /* 1 for x?, 2 for X?, else 0 */
@@ -86,13 +86,33 @@ typedef struct nitarehpu_piece {
     uint32_t type_span_end;
 } nitarehpu_piece_t;
 
+/* The kinds of errors. Those marked `front` are put before the records that the list has by then, the last one found first; the others come after them
+ * in the order of reading. 8 to 15 come only beside a 2, and only where two characters or more are left. docs/RULES.md has each in full. */
+enum {
+    NITAREHPU_KIND_UNMATCHED = 1,    /* a `}` that closes nothing and is not doubled: reading stops at it */
+    NITAREHPU_KIND_EXPECTED = 2,     /* another character stands where a placeholder's `}` should; it is quoted */
+    NITAREHPU_KIND_UNCLOSED = 3,     /* the text ends where a placeholder's `}` should stand */
+    NITAREHPU_KIND_RAW_NAME = 4,     /* front: a name written `r#name`; the suggestion is to drop the `r#` */
+    NITAREHPU_KIND_AFTER_DEBUG = 5,  /* front: `#`, `x` or `X` after the type `?`; it is quoted, and belongs before the `?` */
+    NITAREHPU_KIND_UNDERSCORE = 6,   /* `_` alone where a word was looked for */
+    NITAREHPU_KIND_TOO_LARGE = 7,    /* a number above 65,535; its digits are quoted */
+    NITAREHPU_KIND_DEBUG_FIRST = 8,  /* front: `?:` where the `}` should stand; the word after it, perhaps empty, is quoted */
+    NITAREHPU_KIND_NO_COLON = 9,     /* front: `?}` where the `}` should stand; the suggestion is a `:` before the `?` */
+    NITAREHPU_KIND_EQUALS = 10,      /* front: `=}` where the `}` should stand */
+    NITAREHPU_KIND_MISPLACED = 11,   /* front: `<`, `>` or `^` where the `}` should stand; it is quoted */
+    NITAREHPU_KIND_PLUS_FIRST = 12,  /* front: `+` where the `}` should stand */
+    NITAREHPU_KIND_FIELD = 13,       /* front: a name, a dot, a name: fields are not read */
+    NITAREHPU_KIND_TUPLE_INDEX = 14, /* front: a name, a dot, a number: nor are tuple indexes */
+    NITAREHPU_KIND_COMMA = 15        /* front: `,` where the `}` should stand */
+};
+
 /* An error record. */
 typedef struct nitarehpu_error {
-    uint32_t kind;             /* 1 to 15 */
+    uint32_t kind;             /* one of the above */
     uint32_t span_start;
     uint32_t span_end;
     uint32_t reserved[2];      /* 0 */
-    uint32_t second_present;
+    uint32_t second_present;   /* 2, 3: a fill that is `}`, else the placeholder's opening brace; 10, 15: that brace */
     uint32_t second_start;
     uint32_t second_end;
     uint32_t reserved_quoted;  /* 0 */
@@ -100,7 +120,7 @@ typedef struct nitarehpu_error {
     uint32_t quoted_start;
     uint32_t quoted_end;
     uint32_t reserved_suggestion; /* 0 */
-    uint32_t suggestion_present;
+    uint32_t suggestion_present; /* 4: the `r#`; 5: the `?` and the character after it; 9: the `?` */
     uint32_t suggestion_start;
     uint32_t suggestion_end;
 } nitarehpu_error_t;
@@ -111,15 +131,18 @@ typedef struct nitarehpu_error {
  *   newline     not 0: the text's last newline was appended to it
  *   pieces, errors, places, lines: the lists, with their lengths in numbers; a rest that is no whole record is left alone
  *   answer      gets the six numbers
- * Returns the first of the answer's numbers. Done fills the first records of each list, and the rest stay as they were. With a record for each byte of the
- * text in pieces and in errors, and no snippet, the text is read once; else it is counted first.
+ * Returns the first of the answer's numbers. Done fills the first records of each list, and the rest stay as they were.
+ *
+ * How often the text is read, once it is known to be UTF-8: once into pieces and errors, and once more where a record belongs to the front. A reading that
+ * only counts comes first, unless pieces and errors have room for a record for each byte of the text (none has more) and the snippet is not the text's own raw
+ * literal. For such a literal, argument places and line spans take one more reading each.
  */
 uint8_t nitarehpu_read(const uint8_t *text, size_t text_length, const uint8_t *snippet, size_t snippet_length, uint8_t mode, uint8_t style,
                        size_t hashes, uint8_t given, uint8_t newline, uint32_t *pieces, size_t pieces_length, uint32_t *errors,
                        size_t errors_length, size_t *places, size_t places_length, size_t *lines, size_t lines_length, size_t *answer,
                        size_t answer_length);
 
-/* Says how many records each list of the same call would need, with the same refusals 1 to 5 and 10. */
+/* Says how many records each list of the same call would need, with the same refusals 1 to 5 and 255. One reading, which only counts. */
 uint8_t nitarehpu_count(const uint8_t *text, size_t text_length, const uint8_t *snippet, size_t snippet_length, uint8_t mode, uint8_t style,
                         size_t hashes, uint8_t given, uint8_t newline, size_t *answer, size_t answer_length);
 

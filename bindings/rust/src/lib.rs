@@ -95,7 +95,7 @@ pub fn parse(
     }
 }
 
-/// Whether a call is done. Its text is UTF-8, its mode is one, and its lists have room, so the other refusals do not come.
+/// Whether a call is done. Its text is UTF-8, its mode is one, and its lists, the answer's too, have room, so the other refusals do not come.
 fn accepted(answer: raw::Answer) -> Result<(), Refused> {
     match answer.number {
         0 => Ok(()),

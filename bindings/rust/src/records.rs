@@ -73,7 +73,7 @@ pub enum Count {
     CountImplied,
 }
 
-/// What is wrong, by its number (1 to 15), with its spans and the bytes of the text that a message would quote.
+/// What is wrong, by its number (1 to 15; include/nitarehpu.h has each in words), with its spans and the bytes of the text that a message would quote.
 #[derive(Clone, Debug, PartialEq, Eq)]
 pub struct ParseError {
     pub kind: u8,
