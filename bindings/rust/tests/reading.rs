@@ -1,4 +1,4 @@
-//! The API on texts whose outcome is known: the rows of document 01's bench that show most, the lookup line, and the refusals.
+//! The API on texts whose outcome is known: the rows of the bench that show most, the lookup line, and the refusals.
 
 use nitarehpu::{Alignment, Argument, Count, ParseMode, Parsed, Piece, Position, Refused, parse};
 

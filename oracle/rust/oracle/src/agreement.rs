@@ -1,4 +1,4 @@
-//! Whether the Rust and the recogniser of document 01's grammar agree on a text.
+//! Whether the Rust and the recogniser of the grammar agree on a text.
 
 use crate::case::Case;
 use crate::reading::{PieceRecord, Reading as RustReading};

@@ -1,4 +1,4 @@
-//! The answer to a case: refusals 1 to 9 by document 01's table, or else what the Rust reads.
+//! The answer to a case: refusals 1 to 9 (docs/RULES.md, section 2), or else what the Rust reads.
 
 use crate::case::{Case, LARGEST_ROOM};
 use crate::reading::Reading;

@@ -1,4 +1,5 @@
-//! An error of the Rust as document 01 records it: a kind, spans, and what is quoted as bytes.
+//! An error of the Rust as it is recorded here (docs/RULES.md, section 7): a kind, spans, and what
+//! is quoted as bytes.
 
 use parse_format::{ParseError, Suggestion};
 use std::ops::Range;

@@ -1,5 +1,5 @@
-//! Every reading of a text under document 01's "Grammar and choice rules", found by trying
-//! everything. It rests on that document alone, whose sentences are quoted, and on the tables of
+//! Every reading of a text under the grammar of docs/RULES.md, section 4, found by trying
+//! everything. It rests on those rules alone, whose numbers are given, and on the tables of
 //! identifier characters.
 //!
 //! Two readings are the same when they have the same elements: the same characters as literals, and
@@ -16,20 +16,19 @@ pub enum Mode {
     Diagnostic,
 }
 
-/// "A reading is a list of elements that spell the text."
+/// R4.1: a list of elements that spell the text.
 pub type Reading = Vec<Element>;
 
-/// "A non-empty run without braces; `{{` or `}}` with the run after it, perhaps empty; a
-/// placeholder."
+/// R4.1: a run without braces; a doubled brace with the run after it; a placeholder.
 #[derive(Clone, Debug, PartialEq, Eq)]
 pub enum Element {
-    /// The characters of the view: it "starts at the second brace of a doubled one".
+    /// R5.2: the characters of the view, from the second brace of a doubled one.
     Literal(Range<usize>),
     /// Its characters from brace to brace, its place and its spec.
     Placeholder(Range<usize>, Place, Spec),
 }
 
-/// "Next, at, named." The number of a `Next` is that of the argument it takes.
+/// R5.4. The number of a `Next` is that of the argument it takes.
 #[derive(Clone, Debug, PartialEq, Eq)]
 pub enum Place {
     Next(usize),
@@ -37,7 +36,7 @@ pub enum Place {
     Named(String),
 }
 
-/// "Fixed, by name, by argument, by star, implied." A star has the number of its argument.
+/// R5.10 and R5.12. A star has the number of its argument.
 #[derive(Clone, Debug, Default, PartialEq, Eq)]
 pub enum Count {
     #[default]
@@ -74,8 +73,8 @@ pub fn readings(text: &[char], mode: Mode) -> Vec<Reading> {
     readings
 }
 
-/// The elements "spell the text": one follows the other up to the end. No element starts with a
-/// lone `}`, so "a text where it meets a lone `}` has no reading".
+/// R4.1: the elements follow one another up to the end. None starts with a lone `}`, so a text
+/// where one is met has no reading (R4.3).
 fn readings_from(text: &[char], at: usize, mode: Mode) -> Vec<Reading> {
     if at == text.len() {
         return vec![Vec::new()];
@@ -89,7 +88,7 @@ fn readings_from(text: &[char], at: usize, mode: Mode) -> Vec<Reading> {
     readings
 }
 
-/// "A place is counted after its spec, so a star comes first."
+/// R5.6: a place takes its number after its spec, so a star comes first.
 fn number_arguments(reading: &mut Reading) {
     let mut next = 0;
     let mut count = |number: &mut usize| {
@@ -107,8 +106,7 @@ fn number_arguments(reading: &mut Reading) {
     }
 }
 
-/// "A non-empty run without braces; `{{` or `}}` with the run after it, perhaps empty." "Each run
-/// goes to the next brace or the end."
+/// R4.1 and R4.2: a run, or a doubled brace with the run after it, to the next brace or the end.
 fn literal(text: &[char], at: usize) -> Option<(Element, usize)> {
     let run_end = |at| (at..text.len()).find(|&i| "{}".contains(text[i])).unwrap_or(text.len());
     let doubled = text[at..].starts_with(&['{', '{']) || text[at..].starts_with(&['}', '}']);
@@ -116,7 +114,7 @@ fn literal(text: &[char], at: usize) -> Option<(Element, usize)> {
     (end > at).then_some((Element::Literal(at + usize::from(doubled)..end), end))
 }
 
-/// "A placeholder is `{`, place, whitespace, optionally `:` and a spec, whitespace, `}`."
+/// R4.4: brace, place, whitespace, perhaps a colon and a spec, whitespace, brace.
 fn placeholder(text: &[char], start: usize, mode: Mode) -> Ways<Element> {
     let mut ways = Vec::new();
     let Some(at) = after(text, start, '{') else { return ways };
@@ -134,21 +132,22 @@ fn placeholder(text: &[char], start: usize, mode: Mode) -> Ways<Element> {
     ways
 }
 
-/// "Optionally `:` and a spec."
+/// R4.4: perhaps a colon and a spec.
 fn optional_spec(text: &[char], at: usize, mode: Mode) -> Ways<Option<Spec>> {
     let specs = after(text, at, ':').map_or_else(Vec::new, |at| spec(text, at, mode));
     specs.into_iter().map(|(spec, end)| (Some(spec), end)).chain([(None, at)]).collect()
 }
 
-/// "Whitespace, `}`." Whitespace may stand here apart from the place and the spec, but not
-/// - with no colon: it "belongs to the place" (choice 3; before a colon there is only one way);
-/// - in Diagnostic: the spec is any text, "trailing whitespace included".
+/// R4.4: whitespace and the closing brace. Whitespace may stand here apart from the place and the
+/// spec, but not
+/// - with no colon: it belongs to the place (R4.15; before a colon there is only one way);
+/// - in Diagnostic: the spec is any text, with the whitespace at its end (R4.12).
 fn closing(text: &[char], at: usize, apart: bool) -> impl Iterator<Item = usize> {
     let braces = ends(text, at, is_whitespace).filter(move |&brace| apart || brace == at);
     braces.filter_map(|brace| after(text, brace, '}'))
 }
 
-/// "A place is a number, a word, or nothing."
+/// R4.5: a number, a word, or nothing.
 fn place(text: &[char], at: usize) -> Ways<Place> {
     let mut ways = vec![(Place::Next(0), at)];
     ways.extend(number(text, at).into_iter().map(|(number, end)| (Place::At(number), end)));
@@ -174,8 +173,7 @@ fn spec(text: &[char], at: usize, mode: Mode) -> Ways<Spec> {
     }
 }
 
-/// "Format spec, each part optional and in this order: fill and align; sign `+` `-`; `#`; `0`;
-/// width; `.` with precision; type."
+/// R4.6: fill and align, sign, `#`, `0`, width, precision, type, each of which may be missing.
 fn format_spec(text: &[char], start: usize) -> Ways<Spec> {
     let parts = [fill_and_align, sign, alternate, zero, width, precision, ty];
     let mut ways = vec![(Spec::default(), start)];
@@ -188,14 +186,13 @@ fn format_spec(text: &[char], start: usize) -> Ways<Spec> {
     ways
 }
 
-/// "Choice 1, Format: if the second character after the colon is an align, the first is the fill,
-/// even a brace."
+/// R4.13, choice 1: if the second character after the colon is an align, the first is the fill.
 fn choice_1(text: &[char], start: usize, spec: &Spec) -> bool {
     one_of(text, start + 1, "<>^").is_none() || spec.fill == Some(text[start])
 }
 
-/// "Choice 2, Format: a `0` at the flag's place is the flag unless `$` follows directly; then `0$`
-/// is the width." Each part before the flag is one character.
+/// R4.14, choice 2: a `0` at the flag's place is the flag unless `$` follows directly; then `0$` is
+/// the width. Each part before the flag is one character.
 fn choice_2(text: &[char], start: usize, spec: &Spec) -> bool {
     let before = [spec.fill.is_some(), spec.align.is_some(), spec.sign.is_some(), spec.alternate];
     let flag = start + before.iter().filter(|&&there| there).count();
@@ -206,7 +203,7 @@ fn choice_2(text: &[char], start: usize, spec: &Spec) -> bool {
     }
 }
 
-/// "Fill needs an align of `<`, `>`, `^`; align may stand alone."
+/// R4.7: an align, alone or after a fill.
 fn fill_and_align(text: &[char], at: usize, spec: &Spec) -> Ways<Spec> {
     let alone = one_of(text, at, "<>^").map(|(align, end)| (None, align, end));
     let filled = one_of(text, at + 1, "<>^").map(|(align, end)| (Some(text[at]), align, end));
@@ -237,7 +234,7 @@ fn width(text: &[char], at: usize, spec: &Spec) -> Ways<Spec> {
     ways.map(|(width, end)| (Spec { width, ..spec.clone() }, end)).collect()
 }
 
-/// "Precision is the same, or `*`, or nothing", after its `.`.
+/// R4.9: a width's form, or a star, or nothing, after its dot.
 fn precision(text: &[char], at: usize, spec: &Spec) -> Ways<Spec> {
     let Some(at) = after(text, at, '.') else { return Vec::new() };
     let star = after(text, at, '*').map(|end| (Count::ByStar(0), end));
@@ -245,7 +242,7 @@ fn precision(text: &[char], at: usize, spec: &Spec) -> Ways<Spec> {
     ways.map(|(precision, end)| (Spec { precision, ..spec.clone() }, end)).collect()
 }
 
-/// "A width is a number, number`$` or word`$`."
+/// R4.8: a number, a number and `$`, or a word and `$`.
 fn count(text: &[char], at: usize) -> Ways<Count> {
     let mut ways = Vec::new();
     for (number, end) in number(text, at) {
@@ -258,7 +255,7 @@ fn count(text: &[char], at: usize) -> Ways<Count> {
     ways
 }
 
-/// "Type is `?`, `x?`, `X?`, `x`, `X`, or a word not starting with x or X."
+/// R4.10: `?`, `x?`, `X?`, `x`, `X`, or a word that starts with neither letter.
 fn ty(text: &[char], at: usize, spec: &Spec) -> Ways<Spec> {
     let fixed = [(None, "?"), (Some('x'), "?"), (Some('X'), "?"), (None, "x"), (None, "X")];
     let fixed = fixed.into_iter().filter_map(|(hex, ty)| {
@@ -270,8 +267,8 @@ fn ty(text: &[char], at: usize, spec: &Spec) -> Ways<Spec> {
     ways.map(|(hex, ty, end)| (Spec { hex, ty, ..spec.clone() }, end)).collect()
 }
 
-/// "A word is one start and then continuations"; every length is tried, for "taken as far as they
-/// go" must follow from the rest. "No word is `_`."
+/// R3.5: one start and then continuations; every length is tried, for that they go as far as they
+/// can must follow from the rest. R4.5: no word is `_`.
 fn word(text: &[char], at: usize) -> Ways<String> {
     if !text.get(at).is_some_and(|&c| is_id_start(c)) {
         return Vec::new();
@@ -280,16 +277,15 @@ fn word(text: &[char], at: usize) -> Ways<String> {
     words.filter(|(word, _): &(String, usize)| word != "_").collect()
 }
 
-/// "A number is one or more ASCII digits"; every length is tried. "No number passes 65,535", which
-/// is where a `u16` ends.
+/// R3.7: one or more digits; every length is tried. R4.5: no number passes 65,535, which is where a
+/// `u16` ends.
 fn number(text: &[char], at: usize) -> Ways<u16> {
     let digits = ends(text, at, |c| c.is_ascii_digit()).skip(1);
     let value = |end| text[at..end].iter().collect::<String>().parse().ok();
     digits.filter_map(|end| Some((value(end)?, end))).collect()
 }
 
-/// "Whitespace is White_Space, ten closed ranges, in hex: 9-D, 20, 85, A0, 1680, 2000-200A,
-/// 2028-2029, 202F, 205F, 3000."
+/// R3.3: the ten ranges of White_Space.
 fn is_whitespace(c: char) -> bool {
     matches!(
         u32::from(c),

@@ -1,4 +1,4 @@
-//! What document 01 says of single texts, written by hand.
+//! What the grammar of docs/RULES.md says of single texts, written by hand.
 
 use recogniser::{Count, Element, Mode, Place, Reading, Spec, readings};
 

@@ -1,5 +1,5 @@
-//! Writes the character tables: identifiers from the compiler's own lexer, White_Space as document
-//! 01 lists it and the standard library answers.
+//! Writes the character tables: identifiers from the compiler's own lexer, White_Space as
+//! docs/RULES.md lists it and the standard library answers.
 //!
 //! `tables write ROOT` writes every generated file below the repository's root and checks them;
 //! `tables check ROOT` checks the files that are there and writes nothing. A compiler whose lexer

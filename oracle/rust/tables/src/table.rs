@@ -69,7 +69,7 @@ pub fn of(start: Vec<(u32, u32)>, continuation: Vec<(u32, u32)>) -> [Table; 3] {
     ]
 }
 
-/// The ten ranges of White_Space as document 01 lists them; `facts` asks the standard library.
+/// The ten ranges of White_Space as docs/RULES.md lists them; `facts` asks the standard library.
 fn space_ranges() -> Vec<(u32, u32)> {
     vec![
         (0x9, 0xD),

@@ -1,4 +1,4 @@
-//! Compares the Rust with the grammar of document 01 on every text up to a length, in each mode.
+//! Compares the Rust with the grammar of docs/RULES.md on every text up to a length, in each mode.
 
 use oracle::agreement::{MODES, readable};
 use oracle::make::every::Every;

@@ -10,7 +10,7 @@ const USAGE: &str = "\
 usage: streams all LENGTH ALPHABET [PREFIX]   every text up to LENGTH characters, in each mode
        streams random SEED COUNT [KIND..]     seeded cases; kinds: text frame lines rooms damaged
                                               refused limits
-       streams bench                          B1 to B15 of document 01
+       streams bench                          B1 to B15
 In ALPHABET and PREFIX \\n is a newline, \\t a tabulator and \\\\ a backslash.";
 
 fn main() -> ExitCode {

@@ -1,4 +1,4 @@
-//! The template bench of document 01, B1 to B15.
+//! The bench, B1 to B15 (docs/RULES.md, section 11).
 
 use super::Draft;
 

@@ -1,4 +1,4 @@
-//! The makers of cases: every short text, the bench of document 01, and seeded random cases.
+//! The makers of cases: every short text, the bench, and seeded random cases.
 
 pub mod bench;
 pub mod dice;
