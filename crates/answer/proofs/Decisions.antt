@@ -4,11 +4,13 @@ use mathlib.Core.Path.{_≡_, ap, sym, _∙_}
 use mathlib.Core.List.{List}
 use native.Mathlib.Omega.{arith}
 use lib.ListN.{length}
-use Rattle.answer.specs.Answers.{answered, noCounts, refusedAs, countedBy, openAnswer, Admitted, Opened, Decided}
-use Rattle.answer.specs.AnswerLaws.{opened-refused, opened-counted}
-use Rattle.answer.specs.declared.Request.{Request}
-use Rattle.answer.specs.declared.Rooms.{Rooms}
-use Rattle.answer.specs.declared.Answer.{Answer}
+use Rattle.reading.specs.Answers.{answered, noCounts}
+use Rattle.laws.specs.Deciding.{refusedAs, countedBy, openAnswer}
+use Rattle.answer.specs.Decisions.{Admitted, Opened, Decided}
+use Rattle.answer.specs.DecisionLaws.{opened-refused, opened-counted}
+use Rattle.reading.specs.declared.Request.{Request}
+use Rattle.reading.specs.declared.Rooms.{Rooms}
+use Rattle.reading.specs.declared.Answer.{Answer}
 use Rattle.answer.specs.declared.Decision.{Decision}
 
 module _ (t s : List ℕ) (q : Request) (d : Decision) where

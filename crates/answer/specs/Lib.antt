@@ -1,3 +1,2 @@
-pub mod Answers
-pub mod Exits
-pub mod AnswerLaws
+pub mod Decisions
+pub mod DecisionLaws

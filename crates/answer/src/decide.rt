@@ -1,17 +1,19 @@
 // The answer to a call, before any list is touched: refusals 1 to 5 from what was handed over, 6 to 9 from the counts.
-use crate::Answer;
 use crate::Decision;
-use crate::Hashes;
-use crate::Request;
-use crate::Rooms;
 use frame::Frame;
+use frame::Mode;
 use frame::SnippetPlace;
 use frame::Style;
-use placeholder::Mode;
+use reading::Answer;
 use reading::Counts;
+use reading::Hashes;
+use reading::Request;
+use reading::Rooms;
 ghost use mathlib.Core.Path.{_≡_};
-ghost use Rattle.frame.specs.Spans.{Small};
-ghost use Rattle.answer.specs.Answers.{noCounts, refusedAs, isStyled, styleOf, isLong, endsInNewline, lacksNewline, modeOf, roomFor, countedBy, Admitted, Opened, Decided};
+ghost use Rattle.frame.specs.Bounds.{Small};
+ghost use Rattle.reading.specs.Answers.{noCounts, isStyled, styleOf, isLong, endsInNewline, lacksNewline, modeOf};
+ghost use Rattle.laws.specs.Deciding.{refusedAs, roomFor, countedBy};
+ghost use Rattle.answer.specs.Decisions.{Admitted, Opened, Decided};
 
 fn no_counts() -> Counts
     ensures { λ r. ⌜ r ≡ noCounts ⌝ }
@@ -180,7 +182,7 @@ pub fn opened(text: &[u8], snippet: &[u8], request: Request) -> Decision
     if is_long(text, request.given, snippet) {
         return refused(3, 0);
     }
-    let valid = unicode::valid_prefix(text);
+    let valid = utf8::valid_prefix(text);
     if valid < text.len() {
         return refused(4, valid);
     }

@@ -5,7 +5,7 @@ use mathlib.Core.Bool.{Bool}
 use mathlib.Core.List.{List, [], _∷_}
 use lib.Dec.{eqb}
 use lib.ListN.{getD, take, drop}
-use Rattle.unicode.specs.Choice.{pick}
+use Rattle.utf8.specs.Choice.{pick}
 use Rattle.frame.specs.Places.{place, snippet, rangeOf, spanOf}
 use Rattle.frame.specs.declared.Span.{Span}
 use Rattle.frame.specs.declared.TextRange.{TextRange}
@@ -82,8 +82,8 @@ specFrom w =
       widthspan = maybeSpanAt w 20;
       precision = countAt w 24;
       precisionspan = maybeSpanAt w 28;
-      kind = rangeAt w 32 33;
-      kindspan = maybeSpanAt w 36;
+      typetext = rangeAt w 32 33;
+      typespan = maybeSpanAt w 36;
     }
 
 unfoldable pub argumentFrom : List ℕ → Argument
@@ -155,8 +155,8 @@ pub record SpecFits (s : Spec) : Type 0 where
   pub widthspan : MaybeSpanFits (s .widthspan)
   pub precision : CountFits (s .precision)
   pub precisionspan : MaybeSpanFits (s .precisionspan)
-  pub kind : RangeFits (s .kind)
-  pub kindspan : MaybeSpanFits (s .kindspan)
+  pub typetext : RangeFits (s .typetext)
+  pub typespan : MaybeSpanFits (s .typespan)
 
 pub record ArgumentFits (a : Argument) : Type 0 where
   pub place : PlaceFits (a .place)

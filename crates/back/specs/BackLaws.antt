@@ -5,7 +5,7 @@ use mathlib.Core.Bool.{Bool, true, false}
 use mathlib.Core.List.{List, _++_}
 use native.Mathlib.Nat.{mod-eq-of-lt}
 use native.Mathlib.Omega.{arith}
-use Rattle.unicode.specs.Choice.{pick}
+use Rattle.utf8.specs.Choice.{pick}
 use Rattle.frame.specs.declared.Span.{Span}
 use Rattle.frame.specs.declared.TextRange.{TextRange}
 use Rattle.scan.specs.declared.Count.{Count}
@@ -164,8 +164,8 @@ record Ten (w h p f m wd ws pd ps k ks : List ℕ) : Type 0 where
   widthspan : fourAt w 20 ≡ ws
   precision : fourAt w 24 ≡ pd
   precisionspan : fourAt w 28 ≡ ps
-  kind : fourAt w 32 ≡ k
-  kindspan : fourAt w 36 ≡ ks
+  typetext : fourAt w 32 ≡ k
+  typespan : fourAt w 36 ≡ ks
 
 ten : {h p f m wd ws pd ps k ks : List ℕ} → Four h → Four p → Four f → Four m → Four wd → Four ws → Four pd → Four ps → Four k → Four ks →
     Ten (h ++ (p ++ (f ++ (m ++ ((wd ++ ws) ++ ((pd ++ ps) ++ (k ++ ks))))))) h p f m wd ws pd ps k ks
@@ -180,8 +180,8 @@ ten (Four.made _ _ _ _) (Four.made _ _ _ _) (Four.made _ _ _ _) (Four.made _ _ _
       widthspan = refl;
       precision = refl;
       precisionspan = refl;
-      kind = refl;
-      kindspan = refl;
+      typetext = refl;
+      typespan = refl;
     }
 
 -- the ten of an argument
@@ -190,13 +190,13 @@ argument-ten : (a : Argument) →
     Ten (argumentWords a) (headWords 1 (a .range) (placeTag (a .place))) (placeWords (a .place) (a .placespan)) (fillWords (s .fill))
     (four (alignOf (s .align)) (signOf (s .sign)) (bitOf (s .alternate)) (bitOf (s .zero))) (countData (s .width))
     (spanWords (nameSpanEnd (s .width)) (s .widthspan)) (countData (s .precision)) (spanWords (nameSpanEnd (s .precision)) (s .precisionspan))
-    (four (lowOf (s .kind .start .0)) (lowOf (s .kind .end .0)) (hexOf (s .hex)) 0) (spanWords 0 (s .kindspan))
+    (four (lowOf (s .typetext .start .0)) (lowOf (s .typetext .end .0)) (hexOf (s .hex)) 0) (spanWords 0 (s .typespan))
 unfolding argumentWords specWords
 argument-ten a =
     let s = a .spec in
     ten (Four.made _ _ _ _) (place-four (a .place) (a .placespan)) (fill-four (s .fill)) (Four.made _ _ _ _) (count-four (s .width))
     (span-four (nameSpanEnd (s .width)) (s .widthspan)) (count-four (s .precision)) (span-four (nameSpanEnd (s .precision)) (s .precisionspan))
-    (Four.made _ _ _ _) (span-four 0 (s .kindspan))
+    (Four.made _ _ _ _) (span-four 0 (s .typespan))
 
 -- a four that is another's starts with its number
 same-first : (w : List ℕ) (k n : ℕ) (s : MaybeSpan) → fourAt w k ≡ spanWords n s → word w k ≡ n
@@ -215,13 +215,13 @@ spec-back a h =
       sign = (ap signFrom (second w 12 (t .marks)) ∙ sign-back (s .sign)) i;
       alternate = (ap bitFrom (third w 12 (t .marks)) ∙ bit-back (s .alternate)) i;
       zero = (ap bitFrom (fourth w 12 (t .marks)) ∙ bit-back (s .zero)) i;
-      hex = (ap hexFrom (third w 32 (t .kind)) ∙ hex-back (s .hex)) i;
+      hex = (ap hexFrom (third w 32 (t .typetext)) ∙ hex-back (s .hex)) i;
       width = count-back w 16 (s .width) (h .width) (t .width) (same-first w 20 _ (s .widthspan) (t .widthspan)) i;
       widthspan = maybe-span-back w 20 _ (s .widthspan) (h .widthspan) (t .widthspan) i;
       precision = count-back w 24 (s .precision) (h .precision) (t .precision) (same-first w 28 _ (s .precisionspan) (t .precisionspan)) i;
       precisionspan = maybe-span-back w 28 _ (s .precisionspan) (h .precisionspan) (t .precisionspan) i;
-      kind = range-back w 32 33 (s .kind) (h .kind) (first w 32 (t .kind)) (second w 32 (t .kind)) i;
-      kindspan = maybe-span-back w 36 0 (s .kindspan) (h .kindspan) (t .kindspan) i;
+      typetext = range-back w 32 33 (s .typetext) (h .typetext) (first w 32 (t .typetext)) (second w 32 (t .typetext)) i;
+      typespan = maybe-span-back w 36 0 (s .typespan) (h .typespan) (t .typespan) i;
     }
 
 argument-back : (a : Argument) → ArgumentFits a → argumentFrom (argumentWords a) ≡ a

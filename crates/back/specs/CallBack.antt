@@ -8,19 +8,20 @@ use native.Mathlib.Omega.{arith}
 use borrow.Author.Tests.{ltb-false}
 use lib.ListN.{length, length-take}
 use lib.Seq.{take-at, drop-at}
-use Rattle.unicode.specs.ChoiceLaws.{pick-elim}
+use Rattle.utf8.specs.ChoiceLaws.{pick-elim}
 use Rattle.frame.specs.Frames.{body, endOf, frameOf}
-use Rattle.frame.specs.Spans.{Small}
+use Rattle.frame.specs.Bounds.{Small}
 use Rattle.frame.specs.declared.Frame.{Frame}
-use Rattle.placeholder.specs.declared.Mode.{Mode}
+use Rattle.frame.specs.declared.Mode.{Mode}
 use Rattle.reading.specs.Lists.{gather, pieces, errors}
 use Rattle.reading.specs.declared.ErrorRecord.{ErrorRecord}
 use Rattle.reading.specs.declared.Piece.{Piece}
-use Rattle.answer.specs.Answers.{isLong, frameFor, modeFor, answerOf}
-use Rattle.answer.specs.AnswerLaws.{small-frame, not-long}
-use Rattle.answer.specs.declared.Answer.{Answer}
-use Rattle.answer.specs.declared.Request.{Request}
-use Rattle.answer.specs.declared.Rooms.{Rooms}
+use Rattle.reading.specs.Answers.{isLong, frameFor, modeFor, answerOf}
+use Rattle.laws.specs.Deciding.{answer-passed}
+use Rattle.laws.specs.AnswerLaws.{small-frame, not-long}
+use Rattle.reading.specs.declared.Answer.{Answer}
+use Rattle.reading.specs.declared.Request.{Request}
+use Rattle.reading.specs.declared.Rooms.{Rooms}
 use Rattle.words.specs.Layout.{pieceWords, errorWords}
 use Rattle.words.specs.LaidLaws.{pieceWords-length, errorWords-length}
 use Rattle.back.specs.Back.{pieceFrom, errorFrom, listFrom, Below, All}
@@ -67,14 +68,6 @@ module _ (t s : List ℕ) where
         pick-elim Below _ (λ _. omega arith) (λ _. omega arith))
         (λ _. omega (arith, body-short (q .newline), not-long t (q .given) s e))
 
-    -- an answer of 0 says that neither is too long
-    done-short : (r : Rooms) → answerOf t s q r .number ≡ 0 → isLong t (q .given) s ≡ false
-    unfolding answerOf
-    done-short r =
-        let P : Answer → Type 0 = λ a. a .number ≡ 0 → isLong t (q .given) s ≡ false in
-        pick-elim P _ (λ _ e. absurd (omega arith))
-        (λ _. pick-elim P _ (λ _. pick-elim P _ (λ _ e. absurd (omega arith)) (λ short _. short)) (λ _ e. absurd (omega arith)))
-
 -- A DONE CALL: each of its pieces and error records is what is read back from its numbers, and so are the lists of them
 pub record CallBack (ps : List Piece) (es : List ErrorRecord) : Type 0 where
   pub each-piece : All (λ (p : Piece). pieceFrom (pieceWords p) ≡ p) ps
@@ -99,5 +92,5 @@ reading-back t f m small end =
 pub call-back : (t s : List ℕ) (q : Request) (r : Rooms) → answerOf t s q r .number ≡ 0 →
     CallBack (pieces t (frameFor t s q) (modeFor q)) (errors t (frameFor t s q) (modeFor q))
 call-back t s q r z =
-    let short = done-short t s q r z in
+    let short = answer-passed t s q r z .short in
     reading-back t (frameFor t s q) (modeFor q) (small-frame t s q (not-long t (q .given) s short)) (end-below t s q short)

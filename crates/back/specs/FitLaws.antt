@@ -7,14 +7,14 @@ use mathlib.Core.List.{List}
 use native.Mathlib.Omega.{arith}
 use borrow.Author.Tests.{ltb-true}
 use lib.ListN.{length}
-use Rattle.unicode.specs.ChoiceLaws.{pick-elim}
-use Rattle.unicode.specs.CharLaws.{peeked}
-use Rattle.unicode.specs.declared.Seen.{Seen}
-use Rattle.frame.specs.Spans.{Small, toSnippet, startOf, spanBetween}
+use Rattle.utf8.specs.ChoiceLaws.{pick-elim}
+use Rattle.utf8.specs.CharLaws.{peeked}
+use Rattle.utf8.specs.declared.Seen.{Seen}
+use Rattle.frame.specs.Spans.{toSnippet, startOf, spanBetween}
+use Rattle.frame.specs.Bounds.{Small}
 use Rattle.frame.specs.declared.TextPlace.{TextPlace}
 use Rattle.frame.specs.declared.TextRange.{TextRange}
 use Rattle.frame.specs.declared.SnippetPlace.{SnippetPlace}
-use Rattle.frame.specs.declared.Span.{Span}
 use Rattle.frame.specs.declared.Frame.{Frame}
 use Rattle.scan.specs.Characters.{pastAt, consumed, spacesPast}
 use Rattle.scan.specs.Ends.{endSeen, endOf, spanAcross}
@@ -22,7 +22,7 @@ use Rattle.scan.specs.Words.{wordRead, isDigit, numberFrom, numberRead}
 use Rattle.scan.specs.Counts.{numberCount, nameCount, countAfter, countRead}
 use Rattle.scan.specs.ScanLaws.{seen-elim, run-in, consumed-in, past-in, spaces-in, text-in, word-in, number-in, count-in}
 use Rattle.scan.specs.declared.CountRead.{CountRead}
-use Rattle.scan.specs.declared.Fault.{Fault}
+use Rattle.scan.specs.declared.Flaw.{Flaw}
 use Rattle.scan.specs.declared.Number.{Number}
 use Rattle.scan.specs.declared.NumberRead.{NumberRead}
 use Rattle.placeholder.specs.Places.{placed, rawPlace, wordPlace, placeAfter, placeRead}
@@ -33,13 +33,12 @@ use Rattle.placeholder.specs.Specs.{typeOnly, diagnosticType, afterColon, specR
 use Rattle.placeholder.specs.Arguments.{resolved, argumentRead}
 use Rattle.placeholder.specs.BoundLaws.{spec-next, argument-next}
 use Rattle.closing.specs.OnwardLaws.{argument-in, recover-in}
-use Rattle.closing.specs.Recovery.{because, expectedSeen, expectedAt, cleanFaults, passedTo, afterQuestion, signHint, fieldHint, fieldRead, recoverRead}
+use Rattle.closing.specs.Recovery.{gapAt, cleanFlaws, passedTo, afterQuestion, signHint, fieldHint, fieldRead, recoverRead}
 use Rattle.closing.specs.Defaults.{isIdentifier}
 use Rattle.closing.specs.Wholes.{missingRead, placeholderRead}
-use Rattle.placeholder.specs.declared.ArgumentFaults.{ArgumentFaults}
-use Rattle.placeholder.specs.declared.Fill.{Fill}
+use Rattle.placeholder.specs.declared.ArgumentFlaws.{ArgumentFlaws}
 use Rattle.placeholder.specs.declared.Hex.{Hex}
-use Rattle.placeholder.specs.declared.Mode.{Mode}
+use Rattle.frame.specs.declared.Mode.{Mode}
 use Rattle.placeholder.specs.declared.Place.{Place}
 use Rattle.placeholder.specs.declared.position.Found.{Found}
 use Rattle.placeholder.specs.declared.position.PlaceRead.{PlaceRead}
@@ -51,9 +50,13 @@ use Rattle.placeholder.specs.declared.format.PrecisionRead.{PrecisionRead}
 use Rattle.placeholder.specs.declared.format.TypeRead.{TypeRead}
 use Rattle.placeholder.specs.declared.format.SpecRead.{SpecRead}
 use Rattle.placeholder.specs.declared.between.ArgumentRead.{ArgumentRead}
+use Rattle.closing.specs.declared.recover.Gap.{Gap}
+use Rattle.closing.specs.declared.recover.Hint.{Hint}
 use Rattle.closing.specs.declared.recover.Recovery.{Recovery}
 use Rattle.closing.specs.declared.whole.Closing.{Closing}
 use Rattle.closing.specs.declared.whole.PlaceholderRead.{PlaceholderRead}
+use Rattle.reading.specs.Faults.{flawFault, gapFault, hintFault}
+use Rattle.reading.specs.declared.Fault.{Fault}
 use Rattle.back.specs.Back.{Below, RangeFits, SpanFits, MaybeSpanFits, FillFits, PlaceFits, CountFits, SpecFits, ArgumentFits}
 
 -- a place, and bytes, within a text
@@ -63,45 +66,55 @@ In t at = at .0 ≤ length t
 abbrev pub RangeIn : List ℕ → TextRange → Type 0
 RangeIn t r = In t (r .start) × In t (r .end)
 
--- what a fault's record quotes is within the text, and the span that it holds fits
+-- what a fault's record quotes is within the text
 abbrev pub FaultFits : List ℕ → Fault → Type 0
 FaultFits t Fault.Clean = Unit {0}
 FaultFits t (Fault.Unmatched p) = Unit {0}
-FaultFits t (Fault.Expected p s) = In t p × SpanFits s
-FaultFits t (Fault.Unclosed s) = SpanFits s
+FaultFits t (Fault.Expected p why) = In t p
+FaultFits t (Fault.Unclosed why) = Unit {0}
 FaultFits t (Fault.RawName r) = Unit {0}
 FaultFits t (Fault.AfterDebug p) = In t p
 FaultFits t (Fault.Underscore r) = Unit {0}
 FaultFits t (Fault.TooLarge r) = RangeIn t r
 FaultFits t (Fault.DebugFirst p r) = RangeIn t r
 FaultFits t (Fault.NoColon p) = Unit {0}
-FaultFits t (Fault.Equals p s) = SpanFits s
+FaultFits t (Fault.Equals p brace) = Unit {0}
 FaultFits t (Fault.Misplaced p) = In t p
 FaultFits t (Fault.PlusFirst p) = Unit {0}
 FaultFits t (Fault.Field a b) = Unit {0}
 FaultFits t (Fault.TupleIndex a b) = Unit {0}
-FaultFits t (Fault.Comma p s) = SpanFits s
+FaultFits t (Fault.Comma p brace) = Unit {0}
+
+-- and so what a flaw's does, a missing brace's, and that of what is said there
+abbrev FlawFits : List ℕ → Flaw → Type 0
+FlawFits t x = FaultFits t (flawFault x)
+
+abbrev GapFits : List ℕ → Gap → Type 0
+GapFits t x = FaultFits t (gapFault x)
+
+abbrev HintFits : List ℕ → Hint → Type 0
+HintFits t x = (brace : TextPlace) → FaultFits t (hintFault brace x)
 
 -- an argument's five
-pub record FaultsFit (t : List ℕ) (x : ArgumentFaults) : Type 0 where
-  pub place : FaultFits t (x .place)
-  pub raw : FaultFits t (x .raw)
-  pub width : FaultFits t (x .width)
-  pub precision : FaultFits t (x .precision)
-  pub kind : FaultFits t (x .kind)
+pub record FlawsFit (t : List ℕ) (x : ArgumentFlaws) : Type 0 where
+  pub place : FlawFits t (x .place)
+  pub raw : FlawFits t (x .raw)
+  pub width : FlawFits t (x .width)
+  pub precision : FlawFits t (x .precision)
+  pub typetext : FlawFits t (x .typetext)
 
 module _ (t : List ℕ) (at : TextPlace) where
-  -- the fault of a word quotes nothing
-  word-fault : FaultFits t (wordRead t at .fault)
+  -- the flaw of a word quotes nothing
+  word-flaw : FlawFits t (wordRead t at .flaw)
   unfolding wordRead
-  word-fault = pick-elim (FaultFits t) _ (λ _. tt) (λ _. tt)
+  word-flaw = pick-elim (FlawFits t) _ (λ _. tt) (λ _. tt)
 
   -- a number that is too large is within the text
-  number-fault : In t at → FaultFits t (numberRead t at .fault)
+  number-flaw : In t at → FlawFits t (numberRead t at .flaw)
   unfolding numberRead numberFrom
-  number-fault h =
-      pick-elim (λ (r : NumberRead). FaultFits t (r .fault)) _ (λ _. tt)
-      (λ _. pick-elim (FaultFits t) _ (λ _. (h, run-in isDigit t (at .0) h)) (λ _. tt))
+  number-flaw h =
+      pick-elim (λ (r : NumberRead). FlawFits t (r .flaw)) _ (λ _. tt)
+      (λ _. pick-elim (FlawFits t) _ (λ _. (h, run-in isDigit t (at .0) h)) (λ _. tt))
 
 -- a place that is found
 abbrev FoundFits : Found → Type 0
@@ -109,12 +122,12 @@ FoundFits Found.Nothing = Unit {0}
 FoundFits (Found.Number n) = Unit {0}
 FoundFits (Found.Word r) = RangeFits r
 
--- what each part says of its numbers, its faults and where it stops
+-- what each part says of its numbers, its flaws and where it stops
 record PlaceIn (t : List ℕ) (r : PlaceRead) : Type 0 where
   at : In t (r .at)
   found : FoundFits (r .found)
-  fault : FaultFits t (r .fault)
-  raw : FaultFits t (r .raw)
+  flaw : FlawFits t (r .flaw)
+  raw : FlawFits t (r .raw)
 
 record FillIn (t : List ℕ) (r : FillRead) : Type 0 where
   at : In t (r .at)
@@ -123,73 +136,73 @@ record FillIn (t : List ℕ) (r : FillRead) : Type 0 where
 record CountIn (t : List ℕ) (r : CountRead) : Type 0 where
   at : In t (r .at)
   count : CountFits (r .count)
-  fault : FaultFits t (r .fault)
+  flaw : FlawFits t (r .flaw)
 
 record WidthIn (t : List ℕ) (r : WidthRead) : Type 0 where
   at : In t (r .at)
   width : CountFits (r .width)
   span : MaybeSpanFits (r .span)
-  fault : FaultFits t (r .fault)
+  flaw : FlawFits t (r .flaw)
 
 record PrecisionIn (t : List ℕ) (r : PrecisionRead) : Type 0 where
   at : In t (r .at)
   precision : CountFits (r .precision)
   span : MaybeSpanFits (r .span)
-  fault : FaultFits t (r .fault)
+  flaw : FlawFits t (r .flaw)
 
 record TypeIn (t : List ℕ) (r : TypeRead) : Type 0 where
-  kind : RangeFits (r .kind)
+  typetext : RangeFits (r .typetext)
   span : MaybeSpanFits (r .span)
-  fault : FaultFits t (r .fault)
+  flaw : FlawFits t (r .flaw)
 
 record SpecIn (t : List ℕ) (r : SpecRead) : Type 0 where
   spec : SpecFits (r .spec)
-  width : FaultFits t (r .width)
-  precision : FaultFits t (r .precision)
-  kind : FaultFits t (r .kind)
+  width : FlawFits t (r .width)
+  precision : FlawFits t (r .precision)
+  typetext : FlawFits t (r .typetext)
 
 record ArgumentIn (t : List ℕ) (r : ArgumentRead) : Type 0 where
   place : PlaceFits (r .place)
   spec : SpecFits (r .spec)
-  faults : FaultsFit t (r .faults)
+  flaws : FlawsFit t (r .flaws)
 
 -- where a closing brace is missing
 pub record RecoveryFits (t : List ℕ) (r : Recovery) : Type 0 where
-  pub word : FaultFits t (r .word)
-  pub field : FaultsFit t (r .field)
-  pub hint : FaultFits t (r .hint)
+  pub word : FlawFits t (r .word)
+  pub field : FlawsFit t (r .field)
+  pub hint : HintFits t (r .hint)
 
 abbrev pub ClosingFits : List ℕ → Closing → Type 0
 ClosingFits t (Closing.Closed p) = Unit {0}
-ClosingFits t (Closing.Missing missing on) = FaultFits t missing × RecoveryFits t on
+ClosingFits t (Closing.Missing gap on) = GapFits t gap × RecoveryFits t on
 
 -- a whole placeholder
 pub record WholeFits (t : List ℕ) (p : PlaceholderRead) : Type 0 where
   pub argument : ArgumentFits (p .argument)
-  pub faults : FaultsFit t (p .faults)
+  pub flaws : FlawsFit t (p .flaws)
   pub closing : ClosingFits t (p .closing)
 
 module _ (t : List ℕ) where
-  -- no fault fits
-  clean-fits : FaultsFit t cleanFaults
+  -- no flaw fits
+  clean-fits : FlawsFit t cleanFlaws
   clean-fits =
       record {
         place = tt;
         raw = tt;
         width = tt;
         precision = tt;
-        kind = tt;
+        typetext = tt;
       }
 
   -- where no word and no field is read there is what is said
-  passed-fits : (at : TextPlace) (n : ℕ) (hint : Fault) → FaultFits t hint → RecoveryFits t (passedTo at n hint)
+  passed-fits : (at : TextPlace) (n : ℕ) (hint : Hint) → HintFits t hint → RecoveryFits t (passedTo at n hint)
   passed-fits at n hint h = record { word = tt; field = clean-fits; hint = h }
 
   -- of a field nothing is quoted
-  hint-fits : (p : Place) (from to : TextPlace) → FaultFits t (fieldHint p from to)
-  hint-fits (Place.Next n) from to = tt
-  hint-fits (Place.At k) from to = tt
-  hint-fits (Place.Named r) from to = tt
+  hint-fits : (p : Place) (from to : TextPlace) → HintFits t (fieldHint p from to)
+  hint-fits (Place.Next n) from to brace = tt
+  hint-fits (Place.At k) from to brace = tt
+  hint-fits (Place.Named r) from to brace = tt
 
 module _ (t : List ℕ) (at : TextPlace) where
   -- an align stays within the text
@@ -241,18 +254,18 @@ module _ (t : List ℕ) (f : Frame) (small : Small t f) (end : Below (f .end .0)
   -- a count
   count-fits : (at : TextPlace) → In t at → CountIn t (countRead t f at)
   unfolding countRead numberCount nameCount
-  count-fits at h = record { at = count-in t f at h; count = own .0; fault = own .1 }
+  count-fits at h = record { at = count-in t f at h; count = own .0; flaw = own .1 }
     where
-      go : (n : Number) → let r = countAfter t f at (numberRead t at) n in CountFits (r .count) × FaultFits t (r .fault)
+      go : (n : Number) → let r = countAfter t f at (numberRead t at) n in CountFits (r .count) × FlawFits t (r .flaw)
       go (Number.Given n) =
-          pick-elim (λ (r : CountRead). CountFits (r .count) × FaultFits t (r .fault)) _ (λ _. (tt, number-fault t at h))
-          (λ _. (tt, number-fault t at h))
+          pick-elim (λ (r : CountRead). CountFits (r .count) × FlawFits t (r .flaw)) _ (λ _. (tt, number-flaw t at h))
+          (λ _. (tt, number-flaw t at h))
       go Number.Nothing =
-          let P : CountRead → Type 0 = λ r. CountFits (r .count) × FaultFits t (r .fault) in
-          let w = word-fault t at in
+          let P : CountRead → Type 0 = λ r. CountFits (r .count) × FlawFits t (r .flaw) in
+          let w = word-flaw t at in
           pick-elim P _ (λ _. (tt, w)) (λ _. pick-elim P _ (λ _. ((word-fits at h, between-fits at _), w)) (λ _. (tt, w)))
 
-      own : CountFits (countRead t f at .count) × FaultFits t (countRead t f at .fault)
+      own : CountFits (countRead t f at .count) × FlawFits t (countRead t f at .flaw)
       own = go (numberRead t at .number)
 
   -- what follows the word `r`
@@ -262,11 +275,11 @@ module _ (t : List ℕ) (f : Frame) (small : Small t f) (end : Below (f .end .0)
       let hash = consumed t (name .end) 0x23 .at in
       let inside = consumed-in t (name .end) 0x23 (h .1) in
       let P = PlaceIn t in
-      let plain : P (placed (Found.Word name) (name .end) Fault.Clean Fault.Clean) = record { at = h .1; found = in-fits name h; fault = tt; raw = tt } in
+      let plain : P (placed (Found.Word name) (name .end) Flaw.Clean Flaw.Clean) = record { at = h .1; found = in-fits name h; flaw = tt; raw = tt } in
       pick-elim P _
       (λ _.
       pick-elim P _ (λ _. plain)
-      (λ _. record { at = word-in t hash inside; found = word-fits hash inside; fault = word-fault t hash; raw = tt }))
+      (λ _. record { at = word-in t hash inside; found = word-fits hash inside; flaw = word-flaw t hash; raw = tt }))
       (λ _. plain)
 
   module _ (at : TextPlace) (h : In t at) where
@@ -275,10 +288,10 @@ module _ (t : List ℕ) (f : Frame) (small : Small t f) (end : Below (f .end .0)
     unfolding wordPlace wordRead
     word-place-fits =
         let P = PlaceIn t in
-        pick-elim P _ (λ _. record { at = h; found = tt; fault = tt; raw = tt })
+        pick-elim P _ (λ _. record { at = h; found = tt; flaw = tt; raw = tt })
         (λ _.
         pick-elim P _ (λ _. raw-place-fits _ (h, word-in t at h))
-        (λ _. record { at = word-in t at h; found = word-fits at h; fault = word-fault t at; raw = tt }))
+        (λ _. record { at = word-in t at h; found = word-fits at h; flaw = word-flaw t at; raw = tt }))
 
     -- the place of an argument
     place-fits : PlaceIn t (placeRead t at)
@@ -286,7 +299,7 @@ module _ (t : List ℕ) (f : Frame) (small : Small t f) (end : Below (f .end .0)
     place-fits = go (numberRead t at .number)
       where
         go : (n : Number) → PlaceIn t (placeAfter t at (numberRead t at) n)
-        go (Number.Given n) = record { at = number-in t at h; found = tt; fault = number-fault t at h; raw = tt }
+        go (Number.Given n) = record { at = number-in t at h; found = tt; flaw = number-flaw t at h; raw = tt }
         go Number.Nothing = word-place-fits
 
     -- a fill
@@ -306,7 +319,7 @@ module _ (t : List ℕ) (f : Frame) (small : Small t f) (end : Below (f .end .0)
           at = c .at;
           width = c .count;
           span = pick-elim MaybeSpanFits _ (λ _. tt) (λ _. between-fits at _);
-          fault = c .fault;
+          flaw = c .flaw;
         }
 
     -- what follows a dot
@@ -320,14 +333,14 @@ module _ (t : List ℕ) (f : Frame) (small : Small t f) (end : Below (f .end .0)
           at = consumed-in t at 0x2A h;
           precision = few;
           span = between-fits dot _;
-          fault = tt;
+          flaw = tt;
         })
         (λ _.
         record {
           at = c .at;
           precision = c .count;
           span = between-fits dot _;
-          fault = c .fault;
+          flaw = c .flaw;
         })
 
     -- a type that is a word, or nothing
@@ -335,27 +348,27 @@ module _ (t : List ℕ) (f : Frame) (small : Small t f) (end : Below (f .end .0)
     unfolding wordType
     word-type-fits =
         record {
-          kind = word-fits at h;
+          typetext = word-fits at h;
           span = pick-elim MaybeSpanFits _ (λ _. tt) (λ _. between-fits at _);
-          fault = word-fault t at;
+          flaw = word-flaw t at;
         }
 
     -- what follows an `x` or an `X`
     hex-fits : (x : Hex) (from : TextPlace) → In t from → TypeIn t (hexType t x from at)
     unfolding hexType
     hex-fits x from l =
-        pick-elim (TypeIn t) _ (λ _. record { kind = in-fits _ (h, consumed-in t at 0x3F h); span = tt; fault = tt })
-        (λ _. record { kind = in-fits _ (l, h); span = tt; fault = tt })
+        pick-elim (TypeIn t) _ (λ _. record { typetext = in-fits _ (h, consumed-in t at 0x3F h); span = tt; flaw = tt })
+        (λ _. record { typetext = in-fits _ (l, h); span = tt; flaw = tt })
 
     -- what follows a `?`
     debug-fits : (from : TextPlace) → In t from → TypeIn t (debugType t from at)
     unfolding debugType
-    debug-fits from l = record { kind = in-fits _ (l, h); span = tt; fault = pick-elim (FaultFits t) _ (λ _. l) (λ _. tt) }
+    debug-fits from l = record { typetext = in-fits _ (l, h); span = tt; flaw = pick-elim (FlawFits t) _ (λ _. l) (λ _. tt) }
 
     -- a Diagnostic type
     diagnostic-fits : (colon : TextPlace) → TypeIn t (diagnosticType t f colon at)
     unfolding diagnosticType
-    diagnostic-fits colon = record { kind = in-fits _ (h, text-in t at h); span = between-fits colon _; fault = tt }
+    diagnostic-fits colon = record { typetext = in-fits _ (h, text-in t at h); span = between-fits colon _; flaw = tt }
 
   module _ (at : TextPlace) (h : In t at) where
     -- a width, with the `0` flag before it
@@ -373,7 +386,7 @@ module _ (t : List ℕ) (f : Frame) (small : Small t f) (end : Below (f .end .0)
           at = consumed-in t zero 0x24 inside;
           width = tt;
           span = across-fits at zero;
-          fault = tt;
+          flaw = tt;
         })
         (λ _. plain-width-fits zero inside true))
         (λ _. plain-width-fits at h false)
@@ -388,7 +401,7 @@ module _ (t : List ℕ) (f : Frame) (small : Small t f) (end : Below (f .end .0)
           at = h;
           precision = tt;
           span = tt;
-          fault = tt;
+          flaw = tt;
         })
 
     -- a type
@@ -412,12 +425,12 @@ module _ (t : List ℕ) (f : Frame) (small : Small t f) (end : Below (f .end .0)
               widthspan = tt;
               precision = tt;
               precisionspan = tt;
-              kind = x .kind;
-              kindspan = x .span;
+              typetext = x .typetext;
+              typespan = x .span;
             };
         width = tt;
         precision = tt;
-        kind = x .fault;
+        typetext = x .flaw;
       }
 
   -- a Format spec, a part at a time
@@ -442,19 +455,19 @@ module _ (t : List ℕ) (f : Frame) (small : Small t f) (end : Below (f .end .0)
               widthspan = wi .span;
               precision = pr .precision;
               precisionspan = pr .span;
-              kind = ty .kind;
-              kindspan = ty .span;
+              typetext = ty .typetext;
+              typespan = ty .span;
             };
-        width = wi .fault;
-        precision = pr .fault;
-        kind = ty .fault;
+        width = wi .flaw;
+        precision = pr .flaw;
+        typetext = ty .flaw;
       }
 
   -- a spec with its colon, or nothing
   spec-fits : (m : Mode) (at : TextPlace) → In t at → (n : ℕ) → Below n → SpecIn t (specRead t f m at n)
   unfolding specRead
   spec-fits m at h n few =
-      pick-elim (SpecIn t) _ (λ _. go m _ (consumed-in t at 0x3A h)) (λ _. type-only-fits _ n (record { kind = in-fits _ (h, h); span = tt; fault = tt }))
+      pick-elim (SpecIn t) _ (λ _. go m _ (consumed-in t at 0x3A h)) (λ _. type-only-fits _ n (record { typetext = in-fits _ (h, h); span = tt; flaw = tt }))
     where
       go : (m : Mode) (to : TextPlace) → In t to → SpecIn t (afterColon t f m at to n)
       go Mode.Format to l = format-fits to l n few
@@ -478,13 +491,13 @@ module _ (t : List ℕ) (f : Frame) (small : Small t f) (end : Below (f .end .0)
         record {
           place = resolved-fits (placeRead t at .found) (specRead t f m to n .next) (po .found) (omega (arith, spec-next t f m to n));
           spec = sp .spec;
-          faults =
+          flaws =
               record {
-                place = po .fault;
+                place = po .flaw;
                 raw = po .raw;
                 width = sp .width;
                 precision = sp .precision;
-                kind = sp .kind;
+                typetext = sp .typetext;
               };
         }
 
@@ -495,17 +508,17 @@ module _ (t : List ℕ) (f : Frame) (small : Small t f) (end : Below (f .end .0)
       let colon = consumed t past 0x3A .at in
       let inside = consumed-in t past 0x3A h in
       let P = RecoveryFits t in
-      pick-elim P _ (λ _. passed-fits t past n (Fault.NoColon at) tt)
+      pick-elim P _ (λ _. passed-fits t past n (Hint.NoColon at) (λ _. tt))
       (λ _.
-      pick-elim P _ (λ _. record { word = word-fault t colon; field = clean-fits t; hint = (inside, word-in t colon inside) })
-      (λ _. passed-fits t past n Fault.Clean tt))
+      pick-elim P _ (λ _. record { word = word-flaw t colon; field = clean-fits t; hint = λ _. (inside, word-in t colon inside) })
+      (λ _. passed-fits t past n Hint.Silent (λ _. tt)))
 
   -- a sign that is passed
-  sign-fits : (brace : Span) (at past : TextPlace) → SpanFits brace → In t at → FaultFits t (signHint t brace at past)
+  sign-fits : (at past : TextPlace) → In t at → HintFits t (signHint t at past)
   unfolding signHint
-  sign-fits brace at past s h =
-      let P = FaultFits t in
-      pick-elim P _ (λ _. h) (λ _. pick-elim P _ (λ _. s) (λ _. pick-elim P _ (λ _. tt) (λ _. pick-elim P _ (λ _. s) (λ _. tt))))
+  sign-fits at past h =
+      let P = HintFits t in
+      pick-elim P _ (λ _ _. h) (λ _. pick-elim P _ (λ _ _. tt) (λ _. pick-elim P _ (λ _ _. tt) (λ _. pick-elim P _ (λ _ _. tt) (λ _ _. tt))))
 
   module _ (m : Mode) (n : ℕ) (few : n < 0xFFFFFFFF) where
     -- a dot and a field
@@ -518,35 +531,30 @@ module _ (t : List ℕ) (f : Frame) (small : Small t f) (end : Below (f .end .0)
         (λ _.
         record {
           word = tt;
-          field = argument-fits m dot (consumed-in t at 0x2E h) n few .faults;
-          hint = pick-elim (FaultFits t) _ (λ _. hint-fits t (field .place) from (field .to)) (λ _. tt);
+          field = argument-fits m dot (consumed-in t at 0x2E h) n few .flaws;
+          hint = pick-elim (HintFits t) _ (λ _. hint-fits t (field .place) from (field .to)) (λ _ _. tt);
         })
-        (λ _. passed-fits t at n Fault.Clean tt)
+        (λ _. passed-fits t at n Hint.Silent (λ _. tt))
 
     -- what is passed where a closing brace is missing
-    recover-fits : (brace : Span) → SpanFits brace → (from : TextPlace) (i : Bool) (at : TextPlace) → In t at →
-        RecoveryFits t (recoverRead t f m brace from i at n)
+    recover-fits : (from : TextPlace) (i : Bool) (at : TextPlace) → In t at → RecoveryFits t (recoverRead t f m from i at n)
     unfolding recoverRead
-    recover-fits brace s from i at h =
+    recover-fits from i at h =
         let past = pastAt t at in
         let P = RecoveryFits t in
-        let none = passed-fits t at n Fault.Clean tt in
+        let none = passed-fits t at n Hint.Silent (λ _. tt) in
         pick-elim P _
         (λ _.
         pick-elim P _ (λ _. question-fits at past (past-in t at h) n)
         (λ _.
         pick-elim P _ (λ _. pick-elim P _ (λ _. field-fits from at h) (λ _. none))
-        (λ _. passed-fits t past n (signHint t brace at past) (sign-fits brace at past s h))))
+        (λ _. passed-fits t past n (signHint t at past) (sign-fits at past h))))
         (λ _. none)
 
-  -- the span that says why a closing brace is expected
-  because-fits : (x : Fill) (brace : Span) → FillFits x → SpanFits brace → SpanFits (because x brace)
-  because-fits Fill.Absent brace h s = s
-  because-fits (Fill.Present c q) brace h s = pick-elim SpanFits _ (λ _. h) (λ _. s)
-
-  expected-fits : (at : TextPlace) (why : Span) → In t at → SpanFits why → FaultFits t (expectedAt t at why)
-  unfolding expectedAt
-  expected-fits at why h s = seen-elim (λ (n : Seen). FaultFits t (expectedSeen at why n)) t (at .0) (λ _. s) (λ c w e. (h, s))
+  -- a closing brace that is missing
+  gap-fits : (at why : TextPlace) → In t at → GapFits t (gapAt t at why)
+  unfolding gapAt
+  gap-fits at why h = pick-elim (GapFits t) _ (λ _. h) (λ _. tt)
 
   -- A WHOLE PLACEHOLDER
   module _ (m : Mode) (brace at : TextPlace) (b : In t brace) (h : In t at) (n : ℕ) (few : n + 2 < 0xFFFFFFFF) where
@@ -557,8 +565,6 @@ module _ (t : List ℕ) (f : Frame) (small : Small t f) (end : Below (f .end .0)
         let x = argument-fits m at h n (omega arith) in
         let to = spacesPast t (a .at) in
         let inside = spaces-in t (a .at) (argument-in t f m at n h) in
-        let opening = spanAcross t f brace brace in
-        let fits = across-fits brace brace in
         let i = isIdentifier (a .place) (a .spec) in
         pick-elim (WholeFits t) _
         (λ _.
@@ -570,7 +576,7 @@ module _ (t : List ℕ) (f : Frame) (small : Small t f) (end : Below (f .end .0)
                 spec = x .spec;
                 range = in-fits _ (b, consumed-in t to 0x7D inside);
               };
-          faults = x .faults;
+          flaws = x .flaws;
           closing = tt;
         })
         (λ _.
@@ -580,11 +586,8 @@ module _ (t : List ℕ) (f : Frame) (small : Small t f) (end : Below (f .end .0)
                 place = x .place;
                 placespan = between-fits (a .from) (a .to);
                 spec = x .spec;
-                range = in-fits _ (b, recover-in t f m opening (a .from) i to (a .next) inside);
+                range = in-fits _ (b, recover-in t f m (a .from) i to (a .next) inside);
               };
-          faults = x .faults;
-          closing = (
-            expected-fits to (because (a .spec .fill) opening) inside (because-fits (a .spec .fill) opening (x .spec .fill) fits),
-            recover-fits m (a .next) (omega (arith, argument-next t f m at n)) opening fits (a .from) i to inside,
-          );
+          flaws = x .flaws;
+          closing = (gap-fits to _ inside, recover-fits m (a .next) (omega (arith, argument-next t f m at n)) (a .from) i to inside);
         })

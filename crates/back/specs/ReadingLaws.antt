@@ -3,29 +3,30 @@ use Prim.Native.Nat.{ℕ, _*_, _≤_}
 use mathlib.Core.Path.{ap, sym, _∙_, subst}
 use mathlib.Core.List.{List, _++_}
 use native.Mathlib.Omega.{arith}
-use Rattle.unicode.specs.ChoiceLaws.{pick-elim}
-use Rattle.frame.specs.Spans.{Small, spanBetween}
+use Rattle.utf8.specs.ChoiceLaws.{pick-elim}
+use Rattle.frame.specs.Spans.{spanBetween}
+use Rattle.frame.specs.Bounds.{Small}
 use Rattle.frame.specs.Places.{rangeOf}
 use Rattle.frame.specs.declared.TextPlace.{TextPlace}
 use Rattle.frame.specs.declared.Frame.{Frame}
+use Rattle.frame.specs.declared.Mode.{Mode}
 use Rattle.scan.specs.Characters.{pastAt, consumed}
 use Rattle.scan.specs.Ends.{spanAcross}
 use Rattle.scan.specs.ScanLaws.{consumed-in, past-in, text-in}
-use Rattle.scan.specs.declared.Fault.{Fault}
-use Rattle.placeholder.specs.declared.ArgumentFaults.{ArgumentFaults}
-use Rattle.placeholder.specs.declared.Mode.{Mode}
+use Rattle.placeholder.specs.declared.ArgumentFlaws.{ArgumentFlaws}
 use Rattle.closing.specs.declared.whole.Closing.{Closing}
 use Rattle.reading.specs.Steps.{afterOpen, afterClose, stepAt, onward, reading}
-use Rattle.reading.specs.StepLaws.{step-later, Run, reading-run}
+use Rattle.laws.specs.StepLaws.{step-later, Run, reading-run}
 use Rattle.reading.specs.Faults.{argumentSlots, missingSlots, closingSlots, stepSlots, wrong, faultsOf}
 use Rattle.reading.specs.Records.{recordOf}
 use Rattle.reading.specs.Lists.{gather, piecesOf, pieces, frontOnly, backOnly, reversed, listed, records, faults, errors}
-use Rattle.reading.specs.ListLaws.{gather-more, gather-one}
+use Rattle.laws.specs.ListLaws.{gather-more, gather-one}
 use Rattle.reading.specs.declared.ErrorRecord.{ErrorRecord}
+use Rattle.reading.specs.declared.Fault.{Fault}
 use Rattle.reading.specs.declared.State.{State}
 use Rattle.reading.specs.declared.Step.{Step}
 use Rattle.back.specs.Back.{Below, RangeFits, SpanFits, MaybeSpanFits, MaybeRangeFits, Fits, ErrorFits, All}
-use Rattle.back.specs.FitLaws.{In, FaultFits, FaultsFit, ClosingFits, WholeFits, in-fits, between-fits, across-fits, placeholder-fits}
+use Rattle.back.specs.FitLaws.{In, FaultFits, FlawsFit, ClosingFits, WholeFits, in-fits, between-fits, across-fits, placeholder-fits}
 
 -- each of two lists
 all-append : {A : Type 0} (P : A → Type 0) {xs ys : List A} → All P xs → All P ys → All P (xs ++ ys)
@@ -48,18 +49,18 @@ module _ (t : List ℕ) where
   pieces-of-fit (Step.Placeholder p) h = All.more (h .argument) All.none
 
   -- its faults
-  argument-slots-fit : (a : ArgumentFaults) → FaultsFit t a → All (FaultFits t) (argumentSlots a)
+  argument-slots-fit : (a : ArgumentFlaws) → FlawsFit t a → All (FaultFits t) (argumentSlots a)
   unfolding argumentSlots
   argument-slots-fit a h =
-      All.more (h .place) (All.more (h .raw) (All.more (h .width) (All.more (h .precision) (All.more (h .kind) All.none))))
+      All.more (h .place) (All.more (h .raw) (All.more (h .width) (All.more (h .precision) (All.more (h .typetext) All.none))))
 
-  closing-slots-fit : (c : Closing) → ClosingFits t c → All (FaultFits t) (closingSlots c)
+  closing-slots-fit : (brace : TextPlace) (c : Closing) → ClosingFits t c → All (FaultFits t) (closingSlots brace c)
   unfolding closingSlots missingSlots
-  closing-slots-fit (Closing.Closed p) h = All.none
-  closing-slots-fit (Closing.Missing missing on) h =
+  closing-slots-fit brace (Closing.Closed p) h = All.none
+  closing-slots-fit brace (Closing.Missing gap on) h =
       All.more (h .0)
       (All.more (h .1 .word)
-      (all-append (FaultFits t) (argument-slots-fit (on .field) (h .1 .field)) (All.more (h .1 .hint) All.none)))
+      (all-append (FaultFits t) (argument-slots-fit (on .field) (h .1 .field)) (All.more (h .1 .hint brace) All.none)))
 
   step-slots-fit : (x : Step) → StepFits x → All (FaultFits t) (stepSlots x)
   unfolding stepSlots
@@ -67,7 +68,7 @@ module _ (t : List ℕ) where
   step-slots-fit (Step.Stop p) h = All.more tt All.none
   step-slots-fit (Step.Literal r) h = All.none
   step-slots-fit (Step.Placeholder p) h =
-      all-append (FaultFits t) (argument-slots-fit (p .faults) (h .faults)) (closing-slots-fit (p .closing) (h .closing))
+      all-append (FaultFits t) (argument-slots-fit (p .flaws) (h .flaws)) (closing-slots-fit (p .argument .range .start) (p .closing) (h .closing))
 
 -- each of a list that is some of another, or the other in another order
 module _ (P : Fault → Type 0) where
@@ -116,8 +117,8 @@ module _ (t : List ℕ) (f : Frame) (small : Small t f) (end : Below (f .end .0)
   unfolding recordOf
   record-fits Fault.Clean h = four-fit _ (end, end) tt tt tt
   record-fits (Fault.Unmatched p) h = four-fit _ (across p p) tt tt tt
-  record-fits (Fault.Expected p s) h = four-fit _ (between p p) (h .1) (character-fits p (h .0)) tt
-  record-fits (Fault.Unclosed s) h = four-fit _ (end, end) h tt tt
+  record-fits (Fault.Expected p why) h = four-fit _ (between p p) (across why why) (character-fits p h) tt
+  record-fits (Fault.Unclosed why) h = four-fit _ (end, end) (across why why) tt tt
   record-fits (Fault.RawName r) h = four-fit _ (between (r .start) (r .end)) tt tt (across (r .start) (pastAt t (r .start)))
   record-fits (Fault.AfterDebug p) h =
       let sign = pastAt t p in
@@ -126,12 +127,12 @@ module _ (t : List ℕ) (f : Frame) (small : Small t f) (end : Below (f .end .0)
   record-fits (Fault.TooLarge r) h = four-fit _ (across (r .start) (r .end)) tt (in-fits t f small end r h) tt
   record-fits (Fault.DebugFirst p r) h = four-fit _ (across p p) tt (in-fits t f small end r h) tt
   record-fits (Fault.NoColon p) h = four-fit _ (across p p) tt tt (across p p)
-  record-fits (Fault.Equals p s) h = four-fit _ (across p p) h tt tt
+  record-fits (Fault.Equals p brace) h = four-fit _ (across p p) (across brace brace) tt tt
   record-fits (Fault.Misplaced p) h = four-fit _ (across p p) tt (character-fits p h) tt
   record-fits (Fault.PlusFirst p) h = four-fit _ (across p p) tt tt tt
   record-fits (Fault.Field a b) h = four-fit _ (between a b) tt tt tt
   record-fits (Fault.TupleIndex a b) h = four-fit _ (between a b) tt tt tt
-  record-fits (Fault.Comma p s) h = four-fit _ (across p p) h tt tt
+  record-fits (Fault.Comma p brace) h = four-fit _ (across p p) (across brace brace) tt tt
 
   records-fit : {xs : List Fault} → All (FaultFits t) xs → All ErrorFits (records t f xs)
   unfolding records
@@ -165,7 +166,7 @@ module _ (t : List ℕ) (f : Frame) (small : Small t f) (end : Below (f .end .0)
       run-all : {s : State} {xs : List Step} → In t (s .at) → s .next ≤ 4 * s .at .0 → Run t f m s xs → All P (gather g xs)
       run-all {s} h few (Run.last {x = x} e o) = rw (gather-one g x) (each x (subst (StepFits t) (sym e) (step-fits s h few)))
       run-all {s} h few (Run.more {x = x} {xs = xs} e o r) =
-          let later = step-later t f m s (ap (onward (s .next)) (sym e) ∙ o) in
+          let later = step-later t f m s (ap (onward s) (sym e) ∙ o) in
           rw (gather-more g x xs)
           (all-append P (each x (subst (StepFits t) (sym e) (step-fits s h few))) (run-all (later .inside) (omega (arith, later)) r))
 

@@ -1,9 +1,9 @@
 // A stream of cases on standard input to the full listing on standard output: each case's answer, and every record of its lists.
 // A case is a head of 20 bytes, a snippet and a text. Numbers stand low byte first, and a mark other than 1 is none.
-use answer::Hashes;
-use answer::Request;
-use answer::Rooms;
 use libc::STDIN_FILENO;
+use reading::Hashes;
+use reading::Request;
+use reading::Rooms;
 ghost use Prim.Native.Nat.{_≤_};
 ghost use Rattle.io.specs.Counts.{Counts};
 

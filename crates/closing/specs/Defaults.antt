@@ -1,6 +1,6 @@
 -- A name and nothing else: what a field access or a tuple index may follow.
 use mathlib.Core.Bool.{Bool, true, false}
-use Rattle.unicode.specs.Choice.{both}
+use Rattle.utf8.specs.Choice.{both}
 use Rattle.scan.specs.Counts.{isEmpty}
 use Rattle.scan.specs.declared.Count.{Count}
 use Rattle.placeholder.specs.Parts.{isImplied}
@@ -52,12 +52,12 @@ noMarks fi al si alternate zero hx =
 unfoldable pub noCounts : Count → MaybeSpan → Count → MaybeSpan → Bool
 noCounts w ws p ps = both (isImplied w) (both (noSpan ws) (both (isImplied p) (noSpan ps)))
 
--- a spec equal to the one of a placeholder without a colon, spans included
+-- a spec equal to the one of a placeholder without a colon, spans included (R8.3)
 unfoldable pub isDefault : Spec → Bool
 isDefault s =
     both (noMarks (s .fill) (s .align) (s .sign) (s .alternate) (s .zero) (s .hex))
-    (both (noCounts (s .width) (s .widthspan) (s .precision) (s .precisionspan)) (both (isEmpty (s .kind)) (noSpan (s .kindspan))))
+    (both (noCounts (s .width) (s .widthspan) (s .precision) (s .precisionspan)) (both (isEmpty (s .typetext)) (noSpan (s .typespan))))
 
--- kinds 13 and 14 need a named place and a spec equal to the default, as in the Rust
+-- kinds 13 and 14 need a named place and a spec equal to the default, as in the Rust (R8.3)
 unfoldable pub isIdentifier : Place → Spec → Bool
 isIdentifier p s = both (isNamed p) (isDefault s)

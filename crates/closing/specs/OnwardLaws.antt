@@ -6,12 +6,11 @@ use mathlib.Core.List.{List}
 use native.Mathlib.Nat.{le-refl, le-trans}
 use native.Mathlib.Omega.{arith}
 use lib.ListN.{length}
-use Rattle.unicode.specs.ChoiceLaws.{pick-elim}
-use Rattle.unicode.specs.CharLaws.{peeked}
-use Rattle.unicode.specs.declared.Seen.{Seen}
+use Rattle.utf8.specs.ChoiceLaws.{pick-elim}
+use Rattle.utf8.specs.CharLaws.{peeked}
+use Rattle.utf8.specs.declared.Seen.{Seen}
 use Rattle.frame.specs.declared.TextPlace.{TextPlace}
 use Rattle.frame.specs.declared.TextRange.{TextRange}
-use Rattle.frame.specs.declared.Span.{Span}
 use Rattle.frame.specs.declared.Frame.{Frame}
 use Rattle.scan.specs.Characters.{pastAt, consumed, spacesPast, textEnd}
 use Rattle.scan.specs.Words.{wordRead, numberRead}
@@ -28,7 +27,7 @@ use Rattle.placeholder.specs.BoundLaws.{argument-next}
 use Rattle.closing.specs.Recovery.{afterQuestion, fieldRead, recoverRead}
 use Rattle.closing.specs.Wholes.{missingRead, placeholderRead}
 use Rattle.placeholder.specs.declared.Hex.{Hex}
-use Rattle.placeholder.specs.declared.Mode.{Mode}
+use Rattle.frame.specs.declared.Mode.{Mode}
 use Rattle.placeholder.specs.declared.position.PlaceRead.{PlaceRead}
 use Rattle.placeholder.specs.declared.format.FillRead.{FillRead}
 use Rattle.placeholder.specs.declared.format.AlignRead.{AlignRead}
@@ -220,10 +219,10 @@ module _ (t : List ℕ) where
         (λ _. stay at)
 
     -- over all that is passed where a closing brace is missing
-    pub recover-onward : (brace : Span) (from : TextPlace) (i : Bool) (at : TextPlace) (n : ℕ) →
-        Onward t at (recoverRead t f m brace from i at n .at)
+    pub recover-onward : (from : TextPlace) (i : Bool) (at : TextPlace) (n : ℕ) →
+        Onward t at (recoverRead t f m from i at n .at)
     unfolding recoverRead
-    recover-onward brace from i at n =
+    recover-onward from i at n =
         let P : Recovery → Type 0 = λ r. Onward t at (r .at) in
         pick-elim P _
         (λ _.
@@ -234,7 +233,7 @@ module _ (t : List ℕ) where
     -- over the same, from an argument that was read
     missing : (brace : TextPlace) (a : ArgumentRead) (at : TextPlace) → Onward t at (missingRead t f m brace a at .at)
     unfolding missingRead
-    missing brace a at = recover-onward _ _ _ at _
+    missing brace a at = recover-onward _ _ at _
 
     -- over a whole placeholder
     pub placeholder-onward : (brace at : TextPlace) (n : ℕ) → Onward t at (placeholderRead t f m brace at n .at)
@@ -256,14 +255,14 @@ module _ (t : List ℕ) (f : Frame) (m : Mode) where
     pub argument-in : at .0 ≤ length t → argumentRead t f m at n .at .0 ≤ length t
     argument-in = argument-onward t f m at n .inside
 
-  module _ (brace : Span) (from : TextPlace) (i : Bool) (at : TextPlace) (n : ℕ) where
+  module _ (from : TextPlace) (i : Bool) (at : TextPlace) (n : ℕ) where
     -- what is passed where a closing brace is missing goes forward
-    pub recover-on : at .0 ≤ recoverRead t f m brace from i at n .at .0
-    recover-on = recover-onward t f m brace from i at n .on
+    pub recover-on : at .0 ≤ recoverRead t f m from i at n .at .0
+    recover-on = recover-onward t f m from i at n .on
 
     -- and stays within the text
-    pub recover-in : at .0 ≤ length t → recoverRead t f m brace from i at n .at .0 ≤ length t
-    recover-in = recover-onward t f m brace from i at n .inside
+    pub recover-in : at .0 ≤ length t → recoverRead t f m from i at n .at .0 ≤ length t
+    recover-in = recover-onward t f m from i at n .inside
 
   module _ (brace at : TextPlace) (n : ℕ) where
     -- a placeholder goes forward
@@ -288,10 +287,10 @@ module _ (t : List ℕ) (f : Frame) (m : Mode) where
   field-next from at n = pick-elim (λ (r : Recovery). r .next ≤ n + 2) _ (λ _. argument-next t f m _ n) (λ _. omega arith)
 
   -- where a closing brace is missing at most two arguments are taken
-  pub recover-next : (brace : Span) (from : TextPlace) (i : Bool) (at : TextPlace) (n : ℕ) →
-      recoverRead t f m brace from i at n .next ≤ n + 2
+  pub recover-next : (from : TextPlace) (i : Bool) (at : TextPlace) (n : ℕ) →
+      recoverRead t f m from i at n .next ≤ n + 2
   unfolding recoverRead
-  recover-next brace from i at n =
+  recover-next from i at n =
       let P : Recovery → Type 0 = λ r. r .next ≤ n + 2 in
       pick-elim P _
       (λ _.
@@ -302,7 +301,7 @@ module _ (t : List ℕ) (f : Frame) (m : Mode) where
   -- and so with the argument before it: two more
   missing-next : (brace : TextPlace) (a : ArgumentRead) (at : TextPlace) → missingRead t f m brace a at .next ≤ a .next + 2
   unfolding missingRead
-  missing-next brace a at = recover-next _ _ _ at (a .next)
+  missing-next brace a at = recover-next _ _ at (a .next)
 
   -- a whole placeholder takes at most four
   pub placeholder-next : (brace at : TextPlace) (n : ℕ) → placeholderRead t f m brace at n .next ≤ n + 4

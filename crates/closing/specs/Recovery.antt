@@ -1,57 +1,52 @@
 -- Where a closing brace is missing: kinds 2 and 3, and the suggestions, kinds 8 to 15, which "follow 2 .. only when two characters remain".
 use Prim.Native.Nat.{ℕ}
+use Prim.Native.Char.{code}
 use mathlib.Core.Bool.{Bool, true, false}
 use mathlib.Core.List.{List}
 use lib.Dec.{eqb, ltb}
 use lib.ListN.{length}
-use Rattle.unicode.specs.Choice.{pick, both}
-use Rattle.unicode.specs.Utf8.{peekAt}
-use Rattle.unicode.specs.declared.Seen.{Seen}
-use Rattle.unicode.specs.declared.Seen.the-variants.{Char, End}
+use Rattle.utf8.specs.Choice.{pick, both}
 use Rattle.frame.specs.Places.{rangeOf}
 use Rattle.frame.specs.declared.TextPlace.{TextPlace}
 use Rattle.frame.specs.declared.TextRange.{TextRange}
-use Rattle.frame.specs.declared.Span.{Span}
 use Rattle.frame.specs.declared.Frame.{Frame}
 use Rattle.scan.specs.Characters.{isAt, pastAt, consumed}
 use Rattle.scan.specs.Words.{wordRead}
 use Rattle.scan.specs.declared.Consumed.{Consumed}
-use Rattle.scan.specs.declared.Fault.{Fault}
+use Rattle.scan.specs.declared.Flaw.{Flaw}
 use Rattle.scan.specs.declared.WordRead.{WordRead}
 use Rattle.placeholder.specs.Parts.{isAlign}
 use Rattle.placeholder.specs.Arguments.{argumentRead}
-use Rattle.placeholder.specs.declared.ArgumentFaults.{ArgumentFaults}
+use Rattle.placeholder.specs.declared.ArgumentFlaws.{ArgumentFlaws}
 use Rattle.placeholder.specs.declared.Fill.{Fill}
-use Rattle.placeholder.specs.declared.Mode.{Mode}
+use Rattle.frame.specs.declared.Mode.{Mode}
 use Rattle.placeholder.specs.declared.Place.{Place}
 use Rattle.placeholder.specs.declared.between.ArgumentRead.{ArgumentRead}
+use Rattle.closing.specs.declared.recover.Gap.{Gap}
+use Rattle.closing.specs.declared.recover.Hint.{Hint}
 use Rattle.closing.specs.declared.recover.Recovery.{Recovery}
 
--- "a second span (2 and 3: the fill if it is `}`, else the last opening brace"
-abbrev pub because : Fill → Span → Span
-because Fill.Absent brace = brace
-because (Fill.Present c s) brace = pick (eqb c 0x7D) s brace
+-- what says why: "the fill if it is `}`, else the last opening brace" (K2, K3)
+abbrev pub because : Fill → TextPlace → TextPlace → TextPlace
+because Fill.Absent from brace = brace
+because (Fill.Present c s) from brace = pick (eqb c (code "}")) from brace
 
--- "2 expected `}`, found a character; 3 the same at the end"
-abbrev pub expectedSeen : TextPlace → Span → Seen → Fault
-expectedSeen at why End = Fault.Unclosed why
-expectedSeen at why (Char c w) = Fault.Expected at why
-
-unfoldable pub expectedAt : List ℕ → TextPlace → Span → Fault
-expectedAt t at why = expectedSeen at why (peekAt t (at .0))
+-- "2 expected `}`, found a character; 3 the same at the end" (R8.1)
+unfoldable pub gapAt : List ℕ → TextPlace → TextPlace → Gap
+gapAt t at why = pick (ltb (at .0) (length t)) (Gap.Before at why) (Gap.AtEnd why)
 
 -- nothing is wrong
-abbrev pub cleanFaults : ArgumentFaults
-cleanFaults =
+abbrev pub cleanFlaws : ArgumentFlaws
+cleanFlaws =
     record {
-      place = Fault.Clean;
-      raw = Fault.Clean;
-      width = Fault.Clean;
-      precision = Fault.Clean;
-      kind = Fault.Clean;
+      place = Flaw.Clean;
+      raw = Flaw.Clean;
+      width = Flaw.Clean;
+      precision = Flaw.Clean;
+      typetext = Flaw.Clean;
     }
 
-abbrev pub recovered : TextPlace → ℕ → Fault → ArgumentFaults → Fault → TextRange → Recovery
+abbrev pub recovered : TextPlace → ℕ → Flaw → ArgumentFlaws → Hint → TextRange → Recovery
 recovered at n word field hint text =
     record {
       at = at;
@@ -63,82 +58,75 @@ recovered at n word field hint text =
     }
 
 -- reading goes on at a place, with no word and no field read
-abbrev pub passedTo : TextPlace → ℕ → Fault → Recovery
-passedTo at n hint = recovered at n Fault.Clean cleanFaults hint (rangeOf at at)
+abbrev pub passedTo : TextPlace → ℕ → Hint → Recovery
+passedTo at n hint = recovered at n Flaw.Clean cleanFlaws hint (rangeOf at at)
 
--- the literal text that a spec's type is: in Diagnostic mode the type, in the others none
+-- the literal text that a spec's type is: in Diagnostic mode the type, in the others none (R6.10)
 abbrev pub textTaken : Mode → TextRange → TextRange
-textTaken Mode.Format kind = rangeOf (kind .end) (kind .end)
-textTaken Mode.InlineAsm kind = rangeOf (kind .end) (kind .end)
-textTaken Mode.Diagnostic kind = kind
+textTaken Mode.Format typetext = rangeOf (typetext .end) (typetext .end)
+textTaken Mode.InlineAsm typetext = rangeOf (typetext .end) (typetext .end)
+textTaken Mode.Diagnostic typetext = typetext
 
--- kind 8, with the word after `?:`
+-- kind 8, with the word after `?:` (K8)
 abbrev pub debugFirst : TextPlace → ℕ → WordRead → Recovery
 debugFirst at n w =
-    recovered (w .word .end) n (w .fault) cleanFaults (Fault.DebugFirst at (w .word)) (rangeOf (w .word .end) (w .word .end))
+    recovered (w .word .end) n (w .flaw) cleanFlaws (Hint.DebugFirst at (w .word)) (rangeOf (w .word .end) (w .word .end))
 
--- "8 `?` before `:`; 9 `?}` without colon"; any other `?` is passed and nothing is said
+-- "8 `?` before `:`; 9 `?}` without colon"; any other `?` is passed and nothing is said (R8.2, K8, K9)
 unfoldable pub afterQuestion : List ℕ → TextPlace → TextPlace → ℕ → Recovery
 afterQuestion t at past n =
-    let colon = consumed t past 0x3A in
-    pick (isAt t past 0x7D) (passedTo past n (Fault.NoColon at))
-    (pick (colon .ate) (debugFirst at n (wordRead t (colon .at))) (passedTo past n Fault.Clean))
+    let colon = consumed t past (code ":") in
+    pick (isAt t past (code "}")) (passedTo past n (Hint.NoColon at))
+    (pick (colon .ate) (debugFirst at n (wordRead t (colon .at))) (passedTo past n Hint.Silent))
 
--- "10 `=}`; 11 align misplaced; 12 `+` without colon; 15 `,`"
-unfoldable pub signHint : List ℕ → Span → TextPlace → TextPlace → Fault
-signHint t brace at past =
-    pick (isAlign t at) (Fault.Misplaced at)
-    (pick (isAt t at 0x2C) (Fault.Comma at brace)
-    (pick (isAt t at 0x2B) (Fault.PlusFirst at)
-    (pick (both (isAt t at 0x3D) (isAt t past 0x7D)) (Fault.Equals at brace) Fault.Clean)))
+-- "10 `=}`; 11 align misplaced; 12 `+` without colon; 15 `,`" (R8.2, K10, K11, K12, K15)
+unfoldable pub signHint : List ℕ → TextPlace → TextPlace → Hint
+signHint t at past =
+    pick (isAlign t at) (Hint.Misplaced at)
+    (pick (isAt t at (code ",")) (Hint.Comma at)
+    (pick (isAt t at (code "+")) (Hint.PlusFirst at)
+    (pick (both (isAt t at (code "=")) (isAt t past (code "}"))) (Hint.Equals at) Hint.Silent)))
 
--- nothing is wrong
-abbrev pub isClean : Fault → Bool
-isClean Fault.Clean = true
-isClean (Fault.Unmatched p) = false
-isClean (Fault.Expected p s) = false
-isClean (Fault.Unclosed s) = false
-isClean (Fault.RawName r) = false
-isClean (Fault.AfterDebug p) = false
-isClean (Fault.Underscore r) = false
-isClean (Fault.TooLarge r) = false
-isClean (Fault.DebugFirst p r) = false
-isClean (Fault.NoColon p) = false
-isClean (Fault.Equals p s) = false
-isClean (Fault.Misplaced p) = false
-isClean (Fault.PlusFirst p) = false
-isClean (Fault.Field a b) = false
-isClean (Fault.TupleIndex a b) = false
-isClean (Fault.Comma p s) = false
+-- nothing is said
+abbrev pub isSilent : Hint → Bool
+isSilent Hint.Silent = true
+isSilent (Hint.DebugFirst p r) = false
+isSilent (Hint.NoColon p) = false
+isSilent (Hint.Equals p) = false
+isSilent (Hint.Misplaced p) = false
+isSilent (Hint.PlusFirst p) = false
+isSilent (Hint.Field a b) = false
+isSilent (Hint.TupleIndex a b) = false
+isSilent (Hint.Comma p) = false
 
--- "13 field access; 14 tuple index"; a nameless field is passed and nothing is said
-abbrev pub fieldHint : Place → TextPlace → TextPlace → Fault
-fieldHint (Place.Next n) from to = Fault.Clean
-fieldHint (Place.At k) from to = Fault.TupleIndex from to
-fieldHint (Place.Named r) from to = Fault.Field from to
+-- "13 field access; 14 tuple index"; a nameless field is passed and nothing is said (K13, K14)
+abbrev pub fieldHint : Place → TextPlace → TextPlace → Hint
+fieldHint (Place.Next n) from to = Hint.Silent
+fieldHint (Place.At k) from to = Hint.TupleIndex from to
+fieldHint (Place.Named r) from to = Hint.Field from to
 
--- the field that was read, and its closing brace if it has one
+-- the field that was read, and its closing brace if it has one (R8.4)
 abbrev pub fieldAfter : Mode → TextPlace → ArgumentRead → Consumed → Recovery
 fieldAfter m from field close =
-    recovered (close .at) (field .next) Fault.Clean (field .faults)
-    (pick (close .ate) (fieldHint (field .place) from (field .to)) Fault.Clean)
-    (textTaken m (field .spec .kind))
+    recovered (close .at) (field .next) Flaw.Clean (field .flaws)
+    (pick (close .ate) (fieldHint (field .place) from (field .to)) Hint.Silent)
+    (textTaken m (field .spec .typetext))
 
--- after a name: `.` and a field, which is an argument too and takes its numbers
+-- after a name: `.` and a field, which is an argument too and takes its numbers (R8.4, R8.5)
 unfoldable pub fieldRead : List ℕ → Frame → Mode → TextPlace → TextPlace → ℕ → Recovery
 fieldRead t f m from at n =
-    let dot = consumed t at 0x2E in
+    let dot = consumed t at (code ".") in
     let field = argumentRead t f m (dot .at) n in
-    pick (dot .ate) (fieldAfter m from field (consumed t (field .at) 0x7D)) (passedTo at n Fault.Clean)
+    pick (dot .ate) (fieldAfter m from field (consumed t (field .at) (code "}"))) (passedTo at n Hint.Silent)
 
--- what is said and passed: only when two characters remain
-unfoldable pub recoverRead : List ℕ → Frame → Mode → Span → TextPlace → Bool → TextPlace → ℕ → Recovery
-recoverRead t f m brace from identifier at n =
+-- what is said and passed: only when two characters remain (R8.2)
+unfoldable pub recoverRead : List ℕ → Frame → Mode → TextPlace → Bool → TextPlace → ℕ → Recovery
+recoverRead t f m from identifier at n =
     let past = pastAt t at in
-    let hint = signHint t brace at past in
+    let hint = signHint t at past in
     pick (ltb (past .0) (length t))
-    (pick (isAt t at 0x3F) (afterQuestion t at past n)
-    (pick (isClean hint)
-    (pick identifier (fieldRead t f m from at n) (passedTo at n Fault.Clean))
+    (pick (isAt t at (code "?")) (afterQuestion t at past n)
+    (pick (isSilent hint)
+    (pick identifier (fieldRead t f m from at n) (passedTo at n Hint.Silent))
     (passedTo past n hint)))
-    (passedTo at n Fault.Clean)
+    (passedTo at n Hint.Silent)

@@ -1,36 +1,63 @@
 // What is said, and passed, where a closing brace is missing: suggestions from what stands there, and only when two characters remain.
 use frame::Frame;
-use frame::Span;
+use frame::Mode;
 use frame::TextPlace;
 use frame::TextRange;
 use placeholder::Align;
-use placeholder::ArgumentFaults;
+use placeholder::ArgumentFlaws;
 use placeholder::Fill;
 use placeholder::Hex;
 use placeholder::MaybeSpan;
-use placeholder::Mode;
 use placeholder::Place;
 use placeholder::Sign;
 use placeholder::Spec;
 use scan::Count;
-use scan::Fault;
-use unicode::Seen;
+use scan::Flaw;
+use utf8::Seen;
 ghost use mathlib.Core.Path.{_≡_};
 ghost use Prim.Native.Nat.{_<_};
-ghost use Rattle.frame.specs.Spans.{Small};
-ghost use Rattle.unicode.specs.Choice.{both};
+ghost use Rattle.frame.specs.Bounds.{Small};
+ghost use Rattle.utf8.specs.Choice.{both};
 ghost use Rattle.closing.specs.Defaults.{noFill, noAlign, noSign, noHex, noSpan, isFalse, isNamed, noMarks, noCounts, isDefault, isIdentifier};
-ghost use Rattle.closing.specs.Recovery.{because, expectedAt, cleanFaults, passedTo, textTaken, afterQuestion, signHint, isClean, fieldHint, fieldRead, recoverRead};
+ghost use Rattle.closing.specs.Recovery.{because, gapAt, cleanFlaws, passedTo, textTaken, afterQuestion, signHint, isSilent, fieldHint, fieldRead, recoverRead};
+
+// A closing brace is missing before the character at a place, or at the end; then the character that says why: the fill if it is `}`, else the
+// opening brace.
+pub enum Gap {
+    Before(TextPlace, TextPlace),
+    AtEnd(TextPlace),
+}
+
+// What is said of what stands where a closing brace is missing.
+pub enum Hint {
+    Silent,
+    // 8: a `?` before `:`, and the word after them.
+    DebugFirst(TextPlace, TextRange),
+    // 9: a `?` before `}`, without a colon.
+    NoColon(TextPlace),
+    // 10: an `=` before `}`.
+    Equals(TextPlace),
+    // 11: an align that is misplaced.
+    Misplaced(TextPlace),
+    // 12: a `+` without a colon.
+    PlusFirst(TextPlace),
+    // 13: a field access, from the place's start to the field's end.
+    Field(TextPlace, TextPlace),
+    // 14: a tuple index, likewise.
+    TupleIndex(TextPlace, TextPlace),
+    // 15: a `,`.
+    Comma(TextPlace),
+}
 
 // Where reading stands afterwards, the next argument's number, what was found wrong, and literal text that was passed.
 pub struct Recovery {
     pub at: TextPlace,
     pub next: usize,
     // What the word after `?:` found wrong.
-    pub word: Fault,
+    pub word: Flaw,
     // What a field found wrong.
-    pub field: ArgumentFaults,
-    pub hint: Fault,
+    pub field: ArgumentFlaws,
+    pub hint: Hint,
     // In Diagnostic mode the text after a field's colon.
     pub text: TextRange,
 }
@@ -150,13 +177,13 @@ fn is_default(spec: Spec) -> bool
     let widthspan = spec.widthspan;
     let precision = spec.precision;
     let precisionspan = spec.precisionspan;
-    let kind = spec.kind;
-    let kindspan = spec.kindspan;
+    let typetext = spec.typetext;
+    let typespan = spec.typespan;
     let marks = no_marks(fill, align, sign, spec.alternate, spec.zero, hex);
     let counts = no_counts(width, widthspan, precision, precisionspan);
     and(
         marks,
-        and(counts, and(scan::is_empty(kind), no_span(kindspan))),
+        and(counts, and(scan::is_empty(typetext), no_span(typespan))),
     )
 }
 
@@ -167,15 +194,15 @@ pub fn is_identifier(place: Place, spec: Spec) -> bool
     and(is_named(place), is_default(spec))
 }
 
-// The span that says why a `}` was expected: the fill if it is `}`, else the opening brace.
-pub fn because_of(fill: Fill, brace: Span) -> Span
-    ensures { λ r. ⌜ r ≡ because fill brace ⌝ }
+// The character that says why a `}` was expected: the fill, which stands at `from`, if it is `}`, else the opening brace.
+pub fn because_of(fill: Fill, from: TextPlace, brace: TextPlace) -> TextPlace
+    ensures { λ r. ⌜ r ≡ because fill from brace ⌝ }
 {
     match fill {
         Fill::Absent => brace,
-        Fill::Present(code, span) => {
+        Fill::Present(code, _) => {
             if code == 0x7D {
-                return span;
+                return from;
             }
             brace
         }
@@ -183,37 +210,37 @@ pub fn because_of(fill: Fill, brace: Span) -> Span
 }
 
 // A `}` was expected at a place.
-pub fn expected(text: &[u8], at: TextPlace, why: Span) -> Fault
-    ensures { λ r. ⌜ r ≡ expectedAt (now (text .entry)) at why ⌝ }
+pub fn gap_at(text: &[u8], at: TextPlace, why: TextPlace) -> Gap
+    ensures { λ r. ⌜ r ≡ gapAt (now (text .entry)) at why ⌝ }
 {
     let i = at.0;
-    match unicode::peek(text, i) {
-        Seen::Char { code: _, width: _ } => Fault::Expected(at, why),
-        Seen::End => Fault::Unclosed(why),
+    if i < text.len() {
+        return Gap::Before(at, why);
     }
+    Gap::AtEnd(why)
 }
 
-fn clean_faults() -> ArgumentFaults
-    ensures { λ r. ⌜ r ≡ cleanFaults ⌝ }
+fn clean_flaws() -> ArgumentFlaws
+    ensures { λ r. ⌜ r ≡ cleanFlaws ⌝ }
 {
-    ArgumentFaults {
-        place: Fault::Clean,
-        raw: Fault::Clean,
-        width: Fault::Clean,
-        precision: Fault::Clean,
-        kind: Fault::Clean,
+    ArgumentFlaws {
+        place: Flaw::Clean,
+        raw: Flaw::Clean,
+        width: Flaw::Clean,
+        precision: Flaw::Clean,
+        typetext: Flaw::Clean,
     }
 }
 
 // Reading goes on at a place, with no field and no word read.
-fn passed_to(at: TextPlace, next: usize, hint: Fault) -> Recovery
+fn passed_to(at: TextPlace, next: usize, hint: Hint) -> Recovery
     ensures { λ r. ⌜ r ≡ passedTo at next hint ⌝ }
 {
-    let field = clean_faults();
+    let field = clean_flaws();
     Recovery {
         at,
         next,
-        word: Fault::Clean,
+        word: Flaw::Clean,
         field,
         hint,
         text: TextRange { start: at, end: at },
@@ -221,14 +248,14 @@ fn passed_to(at: TextPlace, next: usize, hint: Fault) -> Recovery
 }
 
 // The literal text that a spec's type is: in Diagnostic mode the type, in the others none.
-pub fn text_taken(mode: Mode, kind: TextRange) -> TextRange
-    ensures { λ r. ⌜ r ≡ textTaken mode kind ⌝ }
+pub fn text_taken(mode: Mode, typetext: TextRange) -> TextRange
+    ensures { λ r. ⌜ r ≡ textTaken mode typetext ⌝ }
 {
-    let end = kind.end;
+    let end = typetext.end;
     match mode {
         Mode::Format => TextRange { start: end, end },
         Mode::InlineAsm => TextRange { start: end, end },
-        Mode::Diagnostic => kind,
+        Mode::Diagnostic => typetext,
     }
 }
 
@@ -237,80 +264,73 @@ fn after_question(text: &[u8], at: TextPlace, past: TextPlace, next: usize) -> R
     ensures { λ r. ⌜ r ≡ afterQuestion (now (text .entry)) at past next ⌝ }
 {
     if scan::peek_is(text, past, b'}') {
-        return passed_to(past, next, Fault::NoColon(at));
+        return passed_to(past, next, Hint::NoColon(at));
     }
     let colon = scan::consume(text, past, b':');
     let from = colon.at;
     if colon.ate {
         let read = scan::word(text, from);
         let word = read.word;
-        let fault = read.fault;
+        let flaw = read.flaw;
         let end = word.end;
-        let field = clean_faults();
+        let field = clean_flaws();
         return Recovery {
             at: end,
             next,
-            word: fault,
+            word: flaw,
             field,
-            hint: Fault::DebugFirst(at, word),
+            hint: Hint::DebugFirst(at, word),
             text: TextRange { start: end, end },
         };
     }
-    passed_to(past, next, Fault::Clean)
+    passed_to(past, next, Hint::Silent)
 }
 
 // What is said of an align, a `,`, an `=` before `}`, or a `+` at a place; `past` is the place after it.
-fn sign_hint(text: &[u8], brace: Span, at: TextPlace, past: TextPlace) -> Fault
-    ensures { λ r. ⌜ r ≡ signHint (now (text .entry)) brace at past ⌝ }
+fn sign_hint(text: &[u8], at: TextPlace, past: TextPlace) -> Hint
+    ensures { λ r. ⌜ r ≡ signHint (now (text .entry)) at past ⌝ }
 {
     if placeholder::format::is_align(text, at) {
-        return Fault::Misplaced(at);
+        return Hint::Misplaced(at);
     }
     if scan::peek_is(text, at, b',') {
-        return Fault::Comma(at, brace);
+        return Hint::Comma(at);
     }
     if scan::peek_is(text, at, b'+') {
-        return Fault::PlusFirst(at);
+        return Hint::PlusFirst(at);
     }
     if scan::peek_is(text, at, b'=') {
         if scan::peek_is(text, past, b'}') {
-            return Fault::Equals(at, brace);
+            return Hint::Equals(at);
         }
     }
-    Fault::Clean
+    Hint::Silent
 }
 
-pub fn is_clean(fault: Fault) -> bool
-    ensures { λ r. ⌜ r ≡ isClean fault ⌝ }
+pub fn is_silent(hint: Hint) -> bool
+    ensures { λ r. ⌜ r ≡ isSilent hint ⌝ }
 {
-    match fault {
-        Fault::Clean => true,
-        Fault::Unmatched(_) => false,
-        Fault::Expected(_, _) => false,
-        Fault::Unclosed(_) => false,
-        Fault::RawName(_) => false,
-        Fault::AfterDebug(_) => false,
-        Fault::Underscore(_) => false,
-        Fault::TooLarge(_) => false,
-        Fault::DebugFirst(_, _) => false,
-        Fault::NoColon(_) => false,
-        Fault::Equals(_, _) => false,
-        Fault::Misplaced(_) => false,
-        Fault::PlusFirst(_) => false,
-        Fault::Field(_, _) => false,
-        Fault::TupleIndex(_, _) => false,
-        Fault::Comma(_, _) => false,
+    match hint {
+        Hint::Silent => true,
+        Hint::DebugFirst(_, _) => false,
+        Hint::NoColon(_) => false,
+        Hint::Equals(_) => false,
+        Hint::Misplaced(_) => false,
+        Hint::PlusFirst(_) => false,
+        Hint::Field(_, _) => false,
+        Hint::TupleIndex(_, _) => false,
+        Hint::Comma(_) => false,
     }
 }
 
 // A closed field is an access by name or by number; a nameless one is passed silently.
-fn field_hint(place: Place, from: TextPlace, to: TextPlace) -> Fault
+fn field_hint(place: Place, from: TextPlace, to: TextPlace) -> Hint
     ensures { λ r. ⌜ r ≡ fieldHint place from to ⌝ }
 {
     match place {
-        Place::Next(_) => Fault::Clean,
-        Place::At(_) => Fault::TupleIndex(from, to),
-        Place::Named(_) => Fault::Field(from, to),
+        Place::Next(_) => Hint::Silent,
+        Place::At(_) => Hint::TupleIndex(from, to),
+        Place::Named(_) => Hint::Field(from, to),
     }
 }
 
@@ -329,14 +349,14 @@ fn read_field(
     let dot = scan::consume(text, at, b'.');
     let start = dot.at;
     if !dot.ate {
-        return passed_to(at, next, Fault::Clean);
+        return passed_to(at, next, Hint::Silent);
     }
     let read = placeholder::between::argument(text, frame, mode, start, next);
     let place = read.place;
-    let field = read.faults;
+    let field = read.flaws;
     let spec = read.spec;
-    let kind = spec.kind;
-    let taken = text_taken(mode, kind);
+    let typetext = spec.typetext;
+    let taken = text_taken(mode, typetext);
     let end = read.at;
     let to = read.to;
     let close = scan::consume(text, end, b'}');
@@ -346,7 +366,7 @@ fn read_field(
         return Recovery {
             at: last,
             next: read.next,
-            word: Fault::Clean,
+            word: Flaw::Clean,
             field,
             hint,
             text: taken,
@@ -355,9 +375,9 @@ fn read_field(
     Recovery {
         at: end,
         next: read.next,
-        word: Fault::Clean,
+        word: Flaw::Clean,
         field,
-        hint: Fault::Clean,
+        hint: Hint::Silent,
         text: taken,
     }
 }
@@ -367,28 +387,27 @@ pub fn recover(
     text: &[u8],
     frame: Frame,
     mode: Mode,
-    brace: Span,
     from: TextPlace,
     identifier: bool,
     at: TextPlace,
     next: usize,
 ) -> Recovery
     requires { ⌜ Small (now text) frame × (next < 0x100000) ⌝ }
-    ensures { λ r. ⌜ r ≡ recoverRead (now (text .entry)) frame mode brace from identifier at next ⌝ }
+    ensures { λ r. ⌜ r ≡ recoverRead (now (text .entry)) frame mode from identifier at next ⌝ }
 {
     let past = scan::past(text, at);
     if text.len() <= past.0 {
-        return passed_to(at, next, Fault::Clean);
+        return passed_to(at, next, Hint::Silent);
     }
     if scan::peek_is(text, at, b'?') {
         return after_question(text, at, past, next);
     }
-    let hint = sign_hint(text, brace, at, past);
-    if !is_clean(hint) {
+    let hint = sign_hint(text, at, past);
+    if !is_silent(hint) {
         return passed_to(past, next, hint);
     }
     if identifier {
         return read_field(text, frame, mode, from, at, next);
     }
-    passed_to(at, next, Fault::Clean)
+    passed_to(at, next, Hint::Silent)
 }

@@ -1,29 +1,29 @@
 // A placeholder from its opening brace to where reading goes on.
+use crate::recover::Gap;
 use crate::recover::Recovery;
 use frame::Frame;
+use frame::Mode;
 use frame::TextPlace;
 use frame::TextRange;
 use placeholder::Argument;
-use placeholder::ArgumentFaults;
-use placeholder::Mode;
+use placeholder::ArgumentFlaws;
 use placeholder::between::ArgumentRead;
-use scan::Fault;
 ghost use mathlib.Core.Path.{_≡_};
 ghost use Prim.Native.Nat.{_<_};
-ghost use Rattle.frame.specs.Spans.{Small};
+ghost use Rattle.frame.specs.Bounds.{Small};
 ghost use Rattle.closing.specs.Wholes.{recordOf, missingRead, placeholderRead};
 
 // How a placeholder ends: at its closing brace, which stands at a place, or without one.
 pub enum Closing {
     Closed(TextPlace),
-    Missing(Fault, Recovery),
+    Missing(Gap, Recovery),
 }
 
 pub struct PlaceholderRead {
     pub argument: Argument,
     // The literal text that was passed, in Diagnostic mode the type.
     pub text: TextRange,
-    pub faults: ArgumentFaults,
+    pub flaws: ArgumentFlaws,
     pub closing: Closing,
     pub at: TextPlace,
     pub next: usize,
@@ -68,22 +68,23 @@ fn missing(
     let place = read.place;
     let spec = read.spec;
     let fill = spec.fill;
-    let kind = spec.kind;
-    let faults = read.faults;
-    let opening = scan::span_across(text, frame, brace, brace);
-    let why = crate::recover::because_of(fill, opening);
-    let fault = crate::recover::expected(text, at, why);
+    let typetext = spec.typetext;
+    let flaws = read.flaws;
+    // The fill stands after the colon, and the colon where the place ends.
+    let colon = read.to;
+    let why = crate::recover::because_of(fill, scan::past(text, colon), brace);
+    let gap = crate::recover::gap_at(text, at, why);
     let identifier = crate::recover::is_identifier(place, spec);
     let from = read.from;
-    let on = crate::recover::recover(text, frame, mode, opening, from, identifier, at, read.next);
+    let on = crate::recover::recover(text, frame, mode, from, identifier, at, read.next);
     let end = on.at;
     let argument = record_of(text, frame, brace, read, end);
-    let taken = crate::recover::text_taken(mode, kind);
+    let taken = crate::recover::text_taken(mode, typetext);
     PlaceholderRead {
         argument,
         text: taken,
-        faults,
-        closing: Closing::Missing(fault, on),
+        flaws,
+        closing: Closing::Missing(gap, on),
         at: end,
         next: on.next,
     }
@@ -103,19 +104,19 @@ pub fn placeholder(
 {
     let read = placeholder::between::argument(text, frame, mode, at, next);
     let spec = read.spec;
-    let kind = spec.kind;
-    let faults = read.faults;
+    let typetext = spec.typetext;
+    let flaws = read.flaws;
     let past = read.at;
     let end = scan::ws(text, past);
     let close = scan::consume(text, end, b'}');
     let last = close.at;
     if close.ate {
         let argument = record_of(text, frame, brace, read, last);
-        let taken = crate::recover::text_taken(mode, kind);
+        let taken = crate::recover::text_taken(mode, typetext);
         return PlaceholderRead {
             argument,
             text: taken,
-            faults,
+            flaws,
             closing: Closing::Closed(end),
             at: last,
             next: read.next,

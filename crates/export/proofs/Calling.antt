@@ -5,16 +5,17 @@ use mathlib.Core.List.{List}
 use native.Mathlib.Omega.{arith}
 use borrow.Author.Tests.{lt-ltb, le-ltb}
 use lib.ListN.{length}
-use Rattle.unicode.specs.Choice.{pick}
+use Rattle.utf8.specs.Choice.{pick}
 use Rattle.reading.specs.Lists.{places, lines}
-use Rattle.answer.specs.Answers.{frameFor, modeFor, Opened, Decided}
-use Rattle.answer.specs.AnswerLaws.{opened-refused, opened-counted}
+use Rattle.reading.specs.Answers.{frameFor, modeFor}
+use Rattle.answer.specs.Decisions.{Opened, Decided}
+use Rattle.answer.specs.DecisionLaws.{opened-refused, opened-counted}
 use Rattle.reading.specs.Written.{over, pairs}
-use Rattle.answer.specs.declared.Request.{Request}
-use Rattle.answer.specs.declared.Answer.{Answer}
+use Rattle.reading.specs.declared.Request.{Request}
+use Rattle.reading.specs.declared.Answer.{Answer}
 use Rattle.answer.specs.declared.Decision.{Decision}
-use Rattle.fills.specs.Filling.{piecesIn, errorsIn}
-use Rattle.export.specs.Calls.{roomsIn, answerWords, isShort, wide, Exported, Counted}
+use Rattle.words.specs.Calls.{piecesIn, errorsIn}
+use Rattle.words.specs.Calls.{roomsIn, answerWords, isShort, wide, Exported, Counted}
 use Rattle.export.specs.Parts.{ReadBy, Read}
 use Rattle.export.proofs.Listing.{at-refused}
 
@@ -45,17 +46,17 @@ module _ (t s : List ℕ) (q : Request) (ps es ls ns : List ℕ) where
 
   module _ (out : List ℕ) where
     -- without room for the answer nothing is done
-    pub short-call : length out < 6 → Exported t s q ps ps es es ls ls ns ns out out 10
+    pub short-call : length out < 6 → Exported t s q ps ps es es ls ls ns ns out out 255
     unfolding isShort pick
     short-call h =
-        let some : _≡_ {A = ℕ} 10 0 → ⊥ = λ z. omega arith in
+        let some : _≡_ {A = ℕ} 255 0 → ⊥ = λ z. omega arith in
         record {
           number = rw (lt-ltb _ _ h);
           answer = rw (lt-ltb _ _ h);
-          pieces = at-refused 10 (piecesIn t (frameFor t s q) (modeFor q)) ps some;
-          errors = at-refused 10 (errorsIn t (frameFor t s q) (modeFor q)) es some;
-          places = at-refused 10 (pairs (places t (frameFor t s q) (modeFor q))) ls some;
-          lines = at-refused 10 (pairs (lines t (frameFor t s q) (modeFor q))) ns some;
+          pieces = at-refused 255 (piecesIn t (frameFor t s q) (modeFor q)) ps some;
+          errors = at-refused 255 (errorsIn t (frameFor t s q) (modeFor q)) es some;
+          places = at-refused 255 (pairs (places t (frameFor t s q) (modeFor q))) ls some;
+          lines = at-refused 255 (pairs (lines t (frameFor t s q) (modeFor q))) ns some;
         }
 
     -- with room the answer is written, and the lists are as reading leaves them
@@ -74,7 +75,7 @@ module _ (t s : List ℕ) (q : Request) (ps es ls ns : List ℕ) where
 
 module _ (t s : List ℕ) (q : Request) (out : List ℕ) where
   -- and so it is with a count
-  pub short-count : length out < 6 → Counted t s q out out 10
+  pub short-count : length out < 6 → Counted t s q out out 255
   unfolding isShort pick
   short-count h = record { number = rw (lt-ltb _ _ h); answer = rw (lt-ltb _ _ h) }
 

@@ -8,23 +8,25 @@ use borrow.Author.Tests.{eq-eqb, ne-eqb, le-ltb}
 use lib.Dec.{eqb}
 use lib.ListN.{length, set}
 use lib.Seq.{sets-eq}
-use Rattle.unicode.specs.Choice.{pick}
-use Rattle.frame.specs.Spans.{Small}
+use Rattle.utf8.specs.Choice.{pick}
+use Rattle.frame.specs.Bounds.{Small}
 use Rattle.frame.specs.declared.Frame.{Frame}
-use Rattle.placeholder.specs.declared.Mode.{Mode}
+use Rattle.frame.specs.declared.Mode.{Mode}
 use Rattle.reading.specs.Lists.{pieces, errors, places, lines, countsOf}
-use Rattle.reading.specs.ListLaws.{no-places, no-lines}
-use Rattle.reading.specs.RoomLaws.{few-pieces, few-errors}
+use Rattle.laws.specs.ListLaws.{no-places, no-lines}
+use Rattle.laws.specs.RoomLaws.{few-pieces, few-errors}
 use Rattle.reading.specs.declared.Counts.{Counts}
-use Rattle.answer.specs.Answers.{answered, roomFor}
-use Rattle.answer.specs.AnswerLaws.{room-enough}
+use Rattle.reading.specs.Answers.{answered}
+use Rattle.laws.specs.Deciding.{roomFor}
+use Rattle.laws.specs.AnswerLaws.{room-enough}
 use Rattle.reading.specs.Written.{over, pairs}
-use Rattle.answer.specs.Exits.{atExit}
-use Rattle.answer.specs.declared.Rooms.{Rooms}
-use Rattle.answer.specs.declared.Answer.{Answer}
-use Rattle.fills.specs.Filling.{piecesIn, errorsIn, Fills}
+use Rattle.reading.specs.Exits.{atExit}
+use Rattle.reading.specs.declared.Rooms.{Rooms}
+use Rattle.reading.specs.declared.Answer.{Answer}
+use Rattle.fills.specs.Filling.{Fills}
+use Rattle.words.specs.Calls.{piecesIn, errorsIn}
 use Rattle.fills.specs.declared.run.Filled.{Filled as Found}
-use Rattle.export.specs.Calls.{isYes, roomsIn, answerWords}
+use Rattle.words.specs.Calls.{isYes, roomsIn, answerWords}
 use Rattle.export.specs.Parts.{Roomy, Ample, Filled, ReadBy}
 
 -- an answer's six numbers, set one after the other

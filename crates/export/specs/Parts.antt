@@ -4,18 +4,19 @@ use mathlib.Core.Path.{_≡_}
 use mathlib.Core.Bool.{false}
 use mathlib.Core.List.{List}
 use lib.ListN.{length}
-use Rattle.frame.specs.Spans.{Small}
+use Rattle.frame.specs.Bounds.{Small}
 use Rattle.frame.specs.declared.Frame.{Frame}
-use Rattle.placeholder.specs.declared.Mode.{Mode}
+use Rattle.frame.specs.declared.Mode.{Mode}
 use Rattle.reading.specs.Lists.{places, lines, countsOf}
-use Rattle.answer.specs.Answers.{answered, countedBy, answerOf, frameFor, modeFor}
+use Rattle.reading.specs.Answers.{answered, answerOf, frameFor, modeFor}
+use Rattle.laws.specs.Deciding.{countedBy}
 use Rattle.reading.specs.Written.{over, pairs}
-use Rattle.answer.specs.Exits.{atExit}
-use Rattle.answer.specs.declared.Request.{Request}
-use Rattle.answer.specs.declared.Rooms.{Rooms}
-use Rattle.answer.specs.declared.Answer.{Answer}
-use Rattle.fills.specs.Filling.{piecesIn, errorsIn}
-use Rattle.export.specs.Calls.{roomsIn}
+use Rattle.reading.specs.Exits.{atExit}
+use Rattle.reading.specs.declared.Request.{Request}
+use Rattle.reading.specs.declared.Rooms.{Rooms}
+use Rattle.reading.specs.declared.Answer.{Answer}
+use Rattle.words.specs.Calls.{piecesIn, errorsIn}
+use Rattle.words.specs.Calls.{roomsIn}
 
 -- no list can be too short for a text of n bytes: each piece and each error has a byte of its own, and only a source literal has spans
 pub record Roomy (n : ℕ) (f : Frame) (r : Rooms) : Type 0 where

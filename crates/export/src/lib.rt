@@ -1,23 +1,23 @@
 // The public call for programs in other languages, on numbers and lent lists of numbers. include/nitarehpu.h says the same in C's words.
-use answer::Answer;
-use answer::Hashes;
-use answer::Request;
-use answer::Rooms;
 use answer::decide::decide;
 use answer::decide::opened;
 use answer::decide::room_for;
 use frame::Frame;
-use placeholder::Mode;
+use frame::Mode;
+use reading::Answer;
 use reading::Counts;
+use reading::Hashes;
+use reading::Request;
+use reading::Rooms;
 use spans::fill_lines;
 use spans::fill_places;
 ghost use mathlib.Core.Path.{_≡_};
 ghost use mathlib.Core.Bool.{true};
 ghost use Prim.Native.Nat.{_≤_};
 ghost use lib.ListN.{length};
-ghost use Rattle.frame.specs.Spans.{Small};
+ghost use Rattle.frame.specs.Bounds.{Small};
 ghost use Rattle.reading.specs.Written.{over};
-ghost use Rattle.export.specs.Calls.{Exported, Counted, styleOf, requestOf, roomsIn, answerWords};
+ghost use Rattle.words.specs.Calls.{Exported, Counted, styleOf, requestOf, roomsIn, answerWords};
 ghost use Rattle.export.specs.Parts.{Roomy, Ample, Filled, ReadBy, Read};
 
 // How a text is to be read. Any mark but 0 is a yes.
@@ -147,7 +147,7 @@ fn read(
 }
 
 // Reads a text into four lists of numbers: 40 a piece, 16 an error record, 2 a span. The answer's six numbers go to a list of their own; without
-// room for them the call is refused with 10. A refusal changes no list.
+// room for them the call is refused with 255. A refusal changes no list.
 #[no_mangle]
 pub extern "C" fn nitarehpu_read(
     text: &[u8],
@@ -166,7 +166,7 @@ pub extern "C" fn nitarehpu_read(
     ensures { λ r. ⌜ Exported (now (text .entry)) (now (snippet .entry)) (requestOf mode style hashes given newline) (now (pieces .entry)) (now (pieces .exit)) (now (errors .entry)) (now (errors .exit)) (now (places .entry)) (now (places .exit)) (now (lines .entry)) (now (lines .exit)) (now (answer .entry)) (now (answer .exit)) r ⌝ }
 {
     if answer.len() < 6 {
-        return 10;
+        return 255;
     }
     let request = request_of(mode, style, hashes, given, newline);
     let got = read(text, snippet, request, pieces, errors, places, lines);
@@ -174,7 +174,7 @@ pub extern "C" fn nitarehpu_read(
     got.number
 }
 
-// How many records each list of a reading needs, with the same refusals 1 to 5 and 10.
+// How many records each list of a reading needs, with the same refusals 1 to 5 and 255.
 #[no_mangle]
 pub extern "C" fn nitarehpu_count(
     text: &[u8],
@@ -189,7 +189,7 @@ pub extern "C" fn nitarehpu_count(
     ensures { λ r. ⌜ Counted (now (text .entry)) (now (snippet .entry)) (requestOf mode style hashes given newline) (now (answer .entry)) (now (answer .exit)) r ⌝ }
 {
     if answer.len() < 6 {
-        return 10;
+        return 255;
     }
     let request = request_of(mode, style, hashes, given, newline);
     let rooms = Rooms {

@@ -1,4 +1,6 @@
 // What a step found wrong, in the order of reading, and the error record of each fault.
+use closing::recover::Gap;
+use closing::recover::Hint;
 use closing::recover::Recovery;
 use closing::whole::Closing;
 use closing::whole::PlaceholderRead;
@@ -6,58 +8,106 @@ use frame::Frame;
 use frame::Span;
 use frame::TextPlace;
 use frame::TextRange;
-use placeholder::ArgumentFaults;
+use placeholder::ArgumentFlaws;
 use placeholder::MaybeSpan;
 use reading::ErrorRecord;
+use reading::Fault;
 use reading::MaybeRange;
 use reading::Step;
-use scan::Fault;
+use scan::Flaw;
 ghost use mathlib.Core.Path.{_≡_};
+ghost use mathlib.Core.Bool.{true};
+ghost use mathlib.Core.List.{[], _++_};
+ghost use Prim.Native.Nat.{_≤_};
 ghost use lib.ListN.{getD};
-ghost use Rattle.frame.specs.Spans.{Small};
-ghost use Rattle.reading.specs.Faults.{argumentSlots, missingSlots, closingSlots, stepSlots};
-ghost use Rattle.reading.specs.Records.{kindOf, isFront, spanOfFault, secondOf, characterAt, quotedOf, suggestionOf, recordOf};
+ghost use Rattle.frame.specs.Bounds.{Small};
+ghost use Rattle.reading.specs.Faults.{isClean, flawFault, gapFault, hintFault, argumentSlots, missingSlots, closingSlots, stepSlots, wrong};
+ghost use Rattle.reading.specs.Records.{isFront, spanAt, characterAt, recordOf};
+ghost use Rattle.laws.specs.RecordLaws.{kindOf, spanOfFault, secondOf, quotedOf, suggestionOf};
+ghost use Rattle.faults.specs.Slots.{FirstWrong};
 
-// The k-th of an argument's five faults.
-fn argument_fault(faults: ArgumentFaults, k: usize) -> Fault
-    ensures { λ r. ⌜ r ≡ getD (argumentSlots faults) k Fault.Clean ⌝ }
+// What a leaf found, as a fault.
+fn of_flaw(flaw: Flaw) -> Fault
+    ensures { λ r. ⌜ r ≡ flawFault flaw ⌝ }
 {
-    match k {
-        0 => faults.place,
-        1 => faults.raw,
-        2 => faults.width,
-        3 => faults.precision,
-        4 => faults.kind,
-        _ => Fault::Clean,
+    match flaw {
+        Flaw::Clean => Fault::Clean,
+        Flaw::RawName(name) => Fault::RawName(name),
+        Flaw::AfterDebug(at) => Fault::AfterDebug(at),
+        Flaw::Underscore(word) => Fault::Underscore(word),
+        Flaw::TooLarge(digits) => Fault::TooLarge(digits),
     }
 }
 
-// The k-th fault where a closing brace is missing: that it is, the word's, the field's five, the suggestion.
-fn missing_fault(missing: Fault, on: Recovery, k: usize) -> Fault
-    ensures { λ r. ⌜ r ≡ getD (missingSlots missing on) k Fault.Clean ⌝ }
+// A closing brace that is missing, as a fault.
+pub fn of_gap(gap: Gap) -> Fault
+    ensures { λ r. ⌜ r ≡ gapFault gap ⌝ }
+{
+    match gap {
+        Gap::Before(at, why) => Fault::Expected(at, why),
+        Gap::AtEnd(why) => Fault::Unclosed(why),
+    }
+}
+
+// What is said there, as a fault; the opening brace.
+pub fn of_hint(brace: TextPlace, hint: Hint) -> Fault
+    ensures { λ r. ⌜ r ≡ hintFault brace hint ⌝ }
+{
+    match hint {
+        Hint::Silent => Fault::Clean,
+        Hint::DebugFirst(at, word) => Fault::DebugFirst(at, word),
+        Hint::NoColon(at) => Fault::NoColon(at),
+        Hint::Equals(at) => Fault::Equals(at, brace),
+        Hint::Misplaced(at) => Fault::Misplaced(at),
+        Hint::PlusFirst(at) => Fault::PlusFirst(at),
+        Hint::Field(from, to) => Fault::Field(from, to),
+        Hint::TupleIndex(from, to) => Fault::TupleIndex(from, to),
+        Hint::Comma(at) => Fault::Comma(at, brace),
+    }
+}
+
+// The k-th of what an argument's five parts found.
+fn argument_flaw(flaws: ArgumentFlaws, k: usize) -> Flaw
+    ensures { λ r. ⌜ flawFault r ≡ getD (argumentSlots flaws) k Fault.Clean ⌝ }
+{
+    match k {
+        0 => flaws.place,
+        1 => flaws.raw,
+        2 => flaws.width,
+        3 => flaws.precision,
+        4 => flaws.typetext,
+        _ => Flaw::Clean,
+    }
+}
+
+// The k-th fault where a closing brace is missing: that it is, the word's, the field's five, what is said.
+fn missing_fault(brace: TextPlace, gap: Gap, on: Recovery, k: usize) -> Fault
+    ensures { λ r. ⌜ r ≡ getD (missingSlots brace gap on) k Fault.Clean ⌝ }
 {
     if k == 0 {
-        return missing;
+        return of_gap(gap);
     }
     if k == 1 {
-        return on.word;
+        let word = on.word;
+        return of_flaw(word);
     }
     if k < 7 {
-        return argument_fault(on.field, k - 2);
+        return of_flaw(argument_flaw(on.field, k - 2));
     }
     if k == 7 {
-        return on.hint;
+        let hint = on.hint;
+        return of_hint(brace, hint);
     }
     Fault::Clean
 }
 
 // The k-th fault at a placeholder's end.
-fn closing_fault(closing: Closing, k: usize) -> Fault
-    ensures { λ r. ⌜ r ≡ getD (closingSlots closing) k Fault.Clean ⌝ }
+fn closing_fault(brace: TextPlace, closing: Closing, k: usize) -> Fault
+    ensures { λ r. ⌜ r ≡ getD (closingSlots brace closing) k Fault.Clean ⌝ }
 {
     match closing {
         Closing::Closed(_) => Fault::Clean,
-        Closing::Missing(missing, on) => missing_fault(missing, on, k),
+        Closing::Missing(gap, on) => missing_fault(brace, gap, on, k),
     }
 }
 
@@ -66,10 +116,11 @@ fn placeholder_fault(read: PlaceholderRead, k: usize) -> Fault
     ensures { λ r. ⌜ r ≡ getD (stepSlots (Step.Placeholder read)) k Fault.Clean ⌝ }
 {
     if k < 5 {
-        return argument_fault(read.faults, k);
+        return of_flaw(argument_flaw(read.flaws, k));
     }
+    let brace = read.argument.range.start;
     let closing = read.closing;
-    closing_fault(closing, k - 5)
+    closing_fault(brace, closing, k - 5)
 }
 
 // The k-th fault of a lone `}`: there is one.
@@ -94,6 +145,86 @@ pub fn fault_at(step: Step, k: usize) -> Fault
     }
 }
 
+// Whether a leaf found nothing.
+fn no_flaw(flaw: Flaw) -> bool
+    ensures { λ r. ⌜ r ≡ isClean (flawFault flaw) ⌝ }
+{
+    match flaw {
+        Flaw::Clean => true,
+        Flaw::RawName(_) => false,
+        Flaw::AfterDebug(_) => false,
+        Flaw::Underscore(_) => false,
+        Flaw::TooLarge(_) => false,
+    }
+}
+
+// Whether an argument's five parts found nothing.
+fn no_flaws(flaws: ArgumentFlaws) -> bool
+    ensures { λ r. ⌜ (r ≡ true → wrong (argumentSlots flaws) ≡ []) ⌝ }
+{
+    let place = flaws.place;
+    let raw = flaws.raw;
+    let width = flaws.width;
+    let precision = flaws.precision;
+    let typetext = flaws.typetext;
+    if !no_flaw(place) {
+        return false;
+    }
+    if !no_flaw(raw) {
+        return false;
+    }
+    if !no_flaw(width) {
+        return false;
+    }
+    if !no_flaw(precision) {
+        return false;
+    }
+    no_flaw(typetext)
+}
+
+// Whether a placeholder is closed and found nothing wrong: most are, and then no slot is looked at.
+fn is_sound(flaws: ArgumentFlaws, closing: Closing) -> bool
+    ensures { λ r. ⌜ (r ≡ true → (brace : TextPlace) → wrong (argumentSlots flaws ++ closingSlots brace closing) ≡ []) ⌝ }
+{
+    match closing {
+        Closing::Closed(_) => no_flaws(flaws),
+        Closing::Missing(_, _) => false,
+    }
+}
+
+// Whether there is nothing to walk over.
+fn is_clear(step: Step) -> bool
+    ensures { λ r. ⌜ (r ≡ true → wrong (stepSlots step) ≡ []) ⌝ }
+{
+    match step {
+        Step::End => true,
+        Step::Stop(_) => false,
+        Step::Literal(_) => true,
+        Step::Placeholder(read) => {
+            let closing = read.closing;
+            is_sound(read.flaws, closing)
+        }
+    }
+}
+
+// The first slot of a step from `slot` on that is not clean, or 13: the one walk over what a step found wrong.
+pub fn first_wrong(step: Step, slot: usize) -> usize
+    requires { ⌜ slot ≤ 13 ⌝ }
+    ensures { λ r. ⌜ FirstWrong step slot r ⌝ }
+{
+    if is_clear(step) {
+        return 13;
+    }
+    let mut k = slot;
+    while k < 13 {
+        if !is_clean(fault_at(step, k)) {
+            return k;
+        }
+        k += 1;
+    }
+    k
+}
+
 // Document 01's number of a fault's kind; 0 where nothing is wrong.
 fn kind_of(fault: Fault) -> u8
     ensures { λ r. ⌜ r ≡ kindOf fault ⌝ }
@@ -116,6 +247,13 @@ fn kind_of(fault: Fault) -> u8
         Fault::TupleIndex(_, _) => 14,
         Fault::Comma(_, _) => 15,
     }
+}
+
+// Whether nothing is wrong.
+pub fn is_clean(fault: Fault) -> bool
+    ensures { λ r. ⌜ r ≡ isClean fault ⌝ }
+{
+    kind_of(fault) == 0
 }
 
 // Whether a fault's record is put at the front: kinds 4, 5 and 8 to 15.
@@ -161,15 +299,24 @@ fn span_of(text: &[u8], frame: Frame, fault: Fault) -> Span
     }
 }
 
-// The second span: why a `}` was expected, or the opening brace.
-fn second_of(fault: Fault) -> MaybeSpan
-    ensures { λ r. ⌜ r ≡ secondOf fault ⌝ }
+// The span of the character at a place.
+fn span_at(text: &[u8], frame: Frame, at: TextPlace) -> MaybeSpan
+    requires { ⌜ Small (now text) frame ⌝ }
+    ensures { λ r. ⌜ r ≡ spanAt (now (text .entry)) frame at ⌝ }
+{
+    MaybeSpan::Present(scan::span_across(text, frame, at, at))
+}
+
+// The second span: the character that says why a `}` was expected, or the opening brace.
+fn second_of(text: &[u8], frame: Frame, fault: Fault) -> MaybeSpan
+    requires { ⌜ Small (now text) frame ⌝ }
+    ensures { λ r. ⌜ r ≡ secondOf (now (text .entry)) frame fault ⌝ }
 {
     match fault {
-        Fault::Expected(_, why) => MaybeSpan::Present(why),
-        Fault::Unclosed(why) => MaybeSpan::Present(why),
-        Fault::Equals(_, brace) => MaybeSpan::Present(brace),
-        Fault::Comma(_, brace) => MaybeSpan::Present(brace),
+        Fault::Expected(_, why) => span_at(text, frame, why),
+        Fault::Unclosed(why) => span_at(text, frame, why),
+        Fault::Equals(_, brace) => span_at(text, frame, brace),
+        Fault::Comma(_, brace) => span_at(text, frame, brace),
         _ => MaybeSpan::Absent,
     }
 }
@@ -214,7 +361,7 @@ fn suggestion_of(text: &[u8], frame: Frame, fault: Fault) -> MaybeSpan
             let sign = scan::past(text, at);
             MaybeSpan::Present(scan::span_across(text, frame, at, sign))
         }
-        Fault::NoColon(at) => MaybeSpan::Present(scan::span_across(text, frame, at, at)),
+        Fault::NoColon(at) => span_at(text, frame, at),
         _ => MaybeSpan::Absent,
     }
 }
@@ -225,7 +372,7 @@ pub fn record_of(text: &[u8], frame: Frame, fault: Fault) -> ErrorRecord
     ensures { λ r. ⌜ r ≡ recordOf (now (text .entry)) frame fault ⌝ }
 {
     let span = span_of(text, frame, fault);
-    let second = second_of(fault);
+    let second = second_of(text, frame, fault);
     let quoted = quoted_of(text, fault);
     let suggestion = suggestion_of(text, frame, fault);
     ErrorRecord {

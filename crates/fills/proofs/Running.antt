@@ -1,23 +1,23 @@
 -- A whole text written step by step: some pieces and records are written, the steps left give the rest. Then what the two runs of `fill` leave.
--- Rests on Turning, Filling, Noting and Overlays, and on reading's WalkLaws, FaultLaws and ListLaws.
+-- Rests on StepsWritten, Filling, Noting and Overlays, and on reading's WalkLaws, FaultLaws and ListLaws.
 use Prim.Native.Nat.{ℕ, suc, _+_, _-_, _*_, _≤_, _<_}
 use mathlib.Core.Path.{_≡_, refl, sym, ap, _∙_}
 use mathlib.Core.Bool.{Bool, true, false}
 use mathlib.Core.List.{List, [], _∷_, _++_}
 use native.Mathlib.Omega.{arith}
 use lib.ListN.{length, length-append}
-use Rattle.frame.specs.Spans.{Small}
+use Rattle.frame.specs.Bounds.{Small}
 use Rattle.frame.specs.declared.Frame.{Frame}
-use Rattle.scan.specs.declared.Fault.{Fault}
-use Rattle.placeholder.specs.declared.Mode.{Mode}
-use Rattle.reading.specs.FaultLaws.{wrong-++}
+use Rattle.reading.specs.declared.Fault.{Fault}
+use Rattle.frame.specs.declared.Mode.{Mode}
+use Rattle.laws.specs.FaultLaws.{wrong-++}
 use Rattle.reading.specs.Faults.{stepSlots, wrong, faultsOf}
 use Rattle.reading.specs.Lists.{gather, piecesOf, pieces, frontOnly, backOnly, reversed, listed, records, faults, errors}
-use Rattle.reading.specs.ListLaws.{gather-append, gather-more, errors-length}
+use Rattle.laws.specs.ListLaws.{gather-append, gather-more, errors-length}
 use Rattle.reading.specs.Records.{isFront}
 use Rattle.reading.specs.Steps.{stepAt, onward, follow, stepsFrom, start, reading}
-use Rattle.reading.specs.StepLaws.{steps-none}
-use Rattle.reading.specs.WalkLaws.{step-next, steps-some, steps-on, steps-over}
+use Rattle.laws.specs.StepLaws.{steps-none}
+use Rattle.laws.specs.WalkLaws.{Kept, kept-start, kept-on, steps-some, steps-on, steps-over}
 use Rattle.reading.specs.declared.Piece.{Piece}
 use Rattle.reading.specs.declared.State.{State}
 use Rattle.reading.specs.declared.Step.{Step}
@@ -25,13 +25,14 @@ use Rattle.reading.specs.Written.{over}
 use Rattle.words.specs.Laid.{laid}
 use Rattle.words.specs.LaidLaws.{laid-length, laid-on, pieceWords-length}
 use Rattle.words.specs.Layout.{pieceWords, errorWords}
-use Rattle.fills.specs.Filling.{piecesIn, errorsIn, Fills}
-use Rattle.plain.specs.Turning.{Noted, notedBy, notes, fronts, backs, StepRoom, Stepped, Turned}
+use Rattle.fills.specs.Filling.{Fills}
+use Rattle.words.specs.Calls.{piecesIn, errorsIn}
+use Rattle.writing.specs.StepsWritten.{Noted, notedBy, notes, fronts, backs, StepRoom, Stepped, SteppedOn}
 use Rattle.fills.specs.Lane.{fresh, slots, Ran}
-use Rattle.plain.specs.declared.Marks.{Marks}
-use Rattle.plain.specs.declared.Turn.{Turn}
-use Rattle.plain.proofs.Overlays.{laid-none, laid-first, over-again, gather-length}
-use Rattle.plain.proofs.Noting.{front-more, front-same, back-more, back-same, Left, left-first, left-on, left-room, inWords, words-more, words-none, words-length, Counted, notes-counted, notes-placed}
+use Rattle.writing.specs.declared.Extent.{Extent}
+use Rattle.writing.specs.declared.StepWritten.{StepWritten}
+use Rattle.writing.proofs.Overlays.{laid-none, laid-first, over-again, gather-length}
+use Rattle.writing.proofs.Noting.{front-more, front-same, back-more, back-same, Left, left-first, left-on, left-room, inWords, words-more, words-none, words-length, Counted, notes-counted, notes-placed}
 
 -- HOW MANY: each of some faults goes to the front or to the back
 parts-length : (xs : List Fault) → length (frontOnly xs) + length (backOnly xs) ≡ length xs
@@ -109,10 +110,10 @@ module _ {old : List ℕ} {all : List Piece} {new : List ℕ} {n : ℕ} {rest : 
         }
 
 -- A RUN: what is written, where reading stands, and how many turns are left
-pub record Going (t : List ℕ) (f : Frame) (m : Mode) (k : ℕ) (ps₀ es₀ ps es : List ℕ) (s : State) (r : Marks) (left : ℕ) : Type 0 where
+pub record Going (t : List ℕ) (f : Frame) (m : Mode) (k : ℕ) (ps₀ es₀ ps es : List ℕ) (s : State) (r : Extent) (left : ℕ) : Type 0 where
   pub pieces : Laying ps₀ (pieces t f m) ps (r .pieces) (gather piecesOf (stepsFrom left t f m s))
   pub errors : Left t f (fresh k es₀) (slots t f m) (notedBy r es) (gather stepSlots (stepsFrom left t f m s))
-  pub next : s .next + 4 * left ≤ 0x40000
+  pub kept : Kept left s
 
 module _ (t : List ℕ) (f : Frame) (m : Mode) where
   module _ (k : ℕ) (ps₀ es₀ : List ℕ) (room : 40 * length (pieces t f m) ≤ length ps₀) where
@@ -127,16 +128,16 @@ module _ (t : List ℕ) (f : Frame) (m : Mode) where
           errors =
               left-first t f {s = fresh k es₀} {all = slots t f m}
               (record { back = omega arith; front = omega arith; count = omega arith });
-          next = omega (arith, small .text);
+          kept = kept-start t (small .text);
         }
 
     -- all is written
-    ran : {ps es : List ℕ} {r : Marks} → Laying ps₀ (pieces t f m) ps (r .pieces) [] → Left t f (fresh k es₀) (slots t f m) (notedBy r es) [] →
+    ran : {ps es : List ℕ} {r : Extent} → Laying ps₀ (pieces t f m) ps (r .pieces) [] → Left t f (fresh k es₀) (slots t f m) (notedBy r es) [] →
         Ran t f m k ps₀ es₀ r ps es
     unfolding notes piecesIn
     ran p l = record { pieces = laying-done p refl .0; wrote = laying-done p refl .1; noted = l .gives }
 
-    module _ {ps es : List ℕ} (s : State) {r : Marks} (left : ℕ) (g : Going t f m k ps₀ es₀ ps es s r left) where
+    module _ {ps es : List ℕ} (s : State) {r : Extent} (left : ℕ) (g : Going t f m k ps₀ es₀ ps es s r left) where
       -- no turns are left
       pub going-none : left ≤ 0 → Ran t f m k ps₀ es₀ r ps es
       unfolding gather
@@ -148,7 +149,7 @@ module _ (t : List ℕ) (f : Frame) (m : Mode) where
       pub going-room : 0 < left → StepRoom (stepAt t f m s) r ps es
       going-room h =
           let x = stepAt t f m s in
-          let more = follow (stepsFrom (left - 1) t f m) (onward (s .next) x) in
+          let more = follow (stepsFrom (left - 1) t f m) (onward s x) in
           let e = steps-some t f m s refl left h in
           record {
             pieces =
@@ -156,7 +157,7 @@ module _ (t : List ℕ) (f : Frame) (m : Mode) where
             errors = left-room t f (stepSlots x) (gather stepSlots more) (rw (e, gather-more stepSlots x more) at (g .errors));
           }
 
-      module _ {r′ : Marks} {ps′ es′ : List ℕ} (d : Stepped t f (stepAt t f m s) r ps es r′ ps′ es′) (more : List Step)
+      module _ {r′ : Extent} {ps′ es′ : List ℕ} (d : Stepped t f (stepAt t f m s) r ps es r′ ps′ es′) (more : List Step)
           (e : stepsFrom left t f m s ≡ stepAt t f m s ∷ more) where
         -- when the step is written, those after it are left
         pieces-on : Laying ps₀ (pieces t f m) ps′ (r′ .pieces) (gather piecesOf more)
@@ -167,9 +168,9 @@ module _ (t : List ℕ) (f : Frame) (m : Mode) where
         errors-on : Left t f (fresh k es₀) (slots t f m) (notedBy r′ es′) (gather stepSlots more)
         errors-on = left-on t f (stepSlots (stepAt t f m s)) (rw (e, gather-more stepSlots (stepAt t f m s) more) at (g .errors)) (d .noted)
 
-      module _ {o : Turn} {ps′ es′ : List ℕ} (h : 0 < left) (d : Turned t f m s r ps es o ps′ es′) where
+      module _ {o : StepWritten} {ps′ es′ : List ℕ} (h : 0 < left) (d : SteppedOn t f m s r ps es o ps′ es′) where
         -- reading goes on
-        pub going-on : o .more ≡ true → Going t f m k ps₀ es₀ ps′ es′ (o .state) (o .marks) (left - 1)
+        pub going-on : o .more ≡ true → Going t f m k ps₀ es₀ ps′ es′ (o .state) (o .extent) (left - 1)
         going-on y =
             let to = d .on y in
             let more = stepsFrom (left - 1) t f m (o .state) in
@@ -177,11 +178,11 @@ module _ (t : List ℕ) (f : Frame) (m : Mode) where
             record {
               pieces = pieces-on (d .stepped) more e;
               errors = errors-on (d .stepped) more e;
-              next = omega (arith, g .next, step-next t f m s refl to);
+              kept = kept-on t f m s refl left h to (g .kept);
             }
 
         -- it is over
-        pub going-over : o .more ≡ false → Ran t f m k ps₀ es₀ (o .marks) ps′ es′
+        pub going-over : o .more ≡ false → Ran t f m k ps₀ es₀ (o .extent) ps′ es′
         unfolding gather
         going-over n =
             let e = steps-over t f m s refl left h (d .over n) in
@@ -192,7 +193,7 @@ no-faults : (xs : List Fault) → length xs ≡ 0 → xs ≡ []
 no-faults [] e = refl
 no-faults (x ∷ xs) e = absurd (omega arith)
 
-module _ (t : List ℕ) (f : Frame) (m : Mode) {ps es ps₁ es₁ : List ℕ} {r : Marks} (room : 16 * length (errors t f m) ≤ length es)
+module _ (t : List ℕ) (f : Frame) (m : Mode) {ps es ps₁ es₁ : List ℕ} {r : Extent} (room : 16 * length (errors t f m) ≤ length es)
     (g : Ran t f m 0 ps es r ps₁ es₁) where
   abbrev front : List Fault
   front = fronts (slots t f m)
@@ -235,7 +236,7 @@ module _ (t : List ℕ) (f : Frame) (m : Mode) {ps es ps₁ es₁ : List ℕ} {r
       }
 
   -- else the second writes each to its place
-  module _ {r₂ : Marks} {ps₂ es₂ : List ℕ} (d : Ran t f m (r .fronts) ps₁ es₁ r₂ ps₂ es₂) (same : length es₁ ≡ length es) where
+  module _ {r₂ : Extent} {ps₂ es₂ : List ℕ} (d : Ran t f m (r .fronts) ps₁ es₁ r₂ ps₂ es₂) (same : length es₁ ≡ length es) where
     second-list : es₂ ≡ over (errorsIn t f m) es₁
     second-list =
         let c = parts-count t f m in

@@ -1,4 +1,4 @@
--- What is told as a step: its piece and its records; and what the step is, from the bytes there. Rests on Lane, Wrongs, quick's Tellings and plain's Noting.
+-- What is told as a step: its piece and its records; and what the step is, from the bytes there. Rests on Lane, Wrongs, quick's Tellings and writing's Noting.
 use Prim.Native.Nat.{ℕ, _+_, _*_, _≤_, _<_}
 use mathlib.Core.Path.{_≡_, refl, sym, ap, _∙_}
 use mathlib.Core.Bool.{Bool, true, false}
@@ -7,55 +7,55 @@ use native.Mathlib.Omega.{arith}
 use borrow.Author.Tests.{ltb-true, ltb-false, lt-ltb, le-ltb, eq-eqb, ne-eqb}
 use lib.Dec.{ltb}
 use lib.ListN.{length, getD}
-use Rattle.unicode.specs.Choice.{pick}
+use Rattle.utf8.specs.Choice.{pick}
 use Rattle.frame.specs.Places.{place, rangeOf}
 use Rattle.frame.specs.declared.Frame.{Frame}
+use Rattle.frame.specs.declared.Mode.{Mode}
 use Rattle.scan.specs.Characters.{consumed, textEnd}
 use Rattle.scan.specs.ScanLaws.{is-at-byte, is-at-end, consumed-is, consumed-some}
 use Rattle.closing.specs.Wholes.{placeholderRead}
-use Rattle.placeholder.specs.declared.Mode.{Mode}
 use Rattle.reading.specs.Faults.{stepSlots}
-use Rattle.reading.specs.ListLaws.{gather-one}
-use Rattle.reading.specs.Steps.{afterOpen, stepAt, stateOf, onward}
+use Rattle.laws.specs.ListLaws.{gather-one}
+use Rattle.reading.specs.Steps.{afterOpen, stepAt, onward}
 use Rattle.reading.specs.declared.Onward.{Onward}
 use Rattle.reading.specs.declared.Piece.{Piece}
 use Rattle.reading.specs.declared.State.{State}
 use Rattle.reading.specs.declared.Step.{Step}
-use Rattle.quick.specs.Tellings.{argumentOf, nextOf, toldRead, Tells}
-use Rattle.quick.specs.declared.Told.{Told}
+use Rattle.quick.specs.Tellings.{argumentOf, toldRead, Tells}
+use Rattle.quick.specs.declared.PlaceholderTold.{PlaceholderTold}
 use Rattle.words.specs.Laid.{laid}
 use Rattle.words.specs.Layout.{argumentWords, pieceWords}
-use Rattle.plain.specs.Turning.{notedBy, Room, Notes, oneMore, StepRoom, Stepped}
-use Rattle.fills.specs.Lane.{Sound, toldSlots}
-use Rattle.plain.specs.declared.Marks.{Marks}
-use Rattle.plain.proofs.Noting.{same-notes, same-room}
+use Rattle.writing.specs.StepsWritten.{notedBy, Room, Notes, oneMore, StepRoom, Stepped}
+use Rattle.writing.specs.declared.Extent.{Extent}
+use Rattle.writing.proofs.Noting.{same-notes, same-room}
+use Rattle.fills.specs.Lane.{Sound, toldState, toldSlots}
 use Rattle.fills.proofs.Wrongs.{told-wrong}
 
-module _ (t : List ℕ) (f : Frame) {m : Marks} {ps es : List ℕ} where
+module _ (t : List ℕ) (f : Frame) {m : Extent} {ps es : List ℕ} where
   -- one that is told gives a piece and the records of what is told to be wrong
-  module _ (brace n : ℕ) (x : Told) where
-    pub told-room : StepRoom (Step.Placeholder (toldRead t f brace n x)) m ps es → Room (notedBy (oneMore m) es) (toldSlots t f brace x)
-    told-room r = same-room (stepSlots (Step.Placeholder (toldRead t f brace n x))) (toldSlots t f brace x) (told-wrong t f brace n x) (r .errors)
+  module _ (brace n : ℕ) (x : PlaceholderTold) where
+    pub told-room : StepRoom (Step.Placeholder (toldRead t f brace n x)) m ps es → Room (notedBy (oneMore m) es) (toldSlots t brace x)
+    told-room r = same-room (stepSlots (Step.Placeholder (toldRead t f brace n x))) (toldSlots t brace x) (told-wrong t f brace n x) (r .errors)
 
-    pub stepped-told : {r : Marks} {ps′ es′ : List ℕ} → ps′ ≡ laid ps (40 * m .pieces) (argumentWords (argumentOf t f brace n x)) →
-        Notes t f (oneMore m) es (toldSlots t f brace x) r es′ → Stepped t f (Step.Placeholder (toldRead t f brace n x)) m ps es r ps′ es′
+    pub stepped-told : {r : Extent} {ps′ es′ : List ℕ} → ps′ ≡ laid ps (40 * m .pieces) (argumentWords (argumentOf t f brace n x)) →
+        Notes t f (oneMore m) es (toldSlots t brace x) r es′ → Stepped t f (Step.Placeholder (toldRead t f brace n x)) m ps es r ps′ es′
     unfolding toldRead
     stepped-told w k =
         let xs = stepSlots (Step.Placeholder (toldRead t f brace n x)) in
         record {
           pieces = k .pieces;
           wrote = w ∙ ap (laid ps (40 * m .pieces)) (sym (gather-one pieceWords (Piece.Placeholder (argumentOf t f brace n x))));
-          noted = k .noted ∙ sym (same-notes t f xs (toldSlots t f brace x) (told-wrong t f brace n x) (notedBy m es));
+          noted = k .noted ∙ sym (same-notes t f xs (toldSlots t brace x) (told-wrong t f brace n x) (notedBy m es));
         }
 
 -- and reading goes on after it
-pub told-on : (t : List ℕ) (f : Frame) (brace n : ℕ) (x : Told) {k : ℕ} → k ≡ nextOf n x →
-    onward n (Step.Placeholder (toldRead t f brace n x)) ≡ Onward.To (stateOf (place (x .on)) k)
-unfolding toldRead
-told-on t f brace n x e = ap (λ (k : ℕ). Onward.To (stateOf (place (x .on)) k)) (sym e)
+pub told-on : (t : List ℕ) (f : Frame) (s : State) (x : PlaceholderTold) {a : State} → a ≡ toldState s x →
+    onward s (Step.Placeholder (toldRead t f (s .at .0) (s .next) x)) ≡ Onward.To a
+unfolding toldRead toldState
+told-on t f s x e = ap Onward.To (sym e)
 
 -- what is told, where it is
-pub told-sound : (t : List ℕ) (at : ℕ) (x : Told) → Tells t at x → x .ok ≡ true → Sound t x
+pub told-sound : (t : List ℕ) (at : ℕ) (x : PlaceholderTold) → Tells t at x → x .ok ≡ true → Sound t x
 told-sound t at x s y = record { placed = s .placed y; wide = s .wide y; precise = s .precise y; reached = s .reached y }
 
 -- WHAT THE STEP IS
@@ -90,6 +90,6 @@ module _ (t : List ℕ) (f : Frame) (m : Mode) (s : State) where
         single false q = consumed-is t (place (s .at .0 + 1)) 0x7B ∙ is-at-end t (place (s .at .0 + 1)) 0x7B (ltb-false _ _ q)
 
 -- and what is told is that placeholder
-pub step-told : (t : List ℕ) (f : Frame) (s : State) (x : Told) → s .at .0 < length t → getD t (s .at .0) 0 ≡ 0x7B → (getD t (s .at .0 + 1) 0 ≡ 0x7B → ⊥) →
+pub step-told : (t : List ℕ) (f : Frame) (s : State) (x : PlaceholderTold) → s .at .0 < length t → getD t (s .at .0) 0 ≡ 0x7B → (getD t (s .at .0 + 1) 0 ≡ 0x7B → ⊥) →
     Tells t (s .at .0 + 1) x → x .ok ≡ true → Step.Placeholder (toldRead t f (s .at .0) (s .next) x) ≡ stepAt t f Mode.Format s
 step-told t f s x h e n l y = sym (ap Step.Placeholder (l .read y f (s .at .0) (s .next) refl)) ∙ step-open t f Mode.Format s h e n

@@ -1,4 +1,4 @@
--- The numbers of what the quick lane tells, part by part: each part's four numbers are the layout's. Rests on Turning, quick's Tellings and words' Layout.
+-- The numbers of what the quick lane tells, part by part: each part's four numbers are the layout's. Rests on Lane, quick's Tellings and words' Layout.
 use Prim.Native.Nat.{ℕ, _+_, _≤_}
 use mathlib.Core.Path.{_≡_, refl, sym, ap, _∙_}
 use mathlib.Core.Bool.{Bool, true, false}
@@ -7,8 +7,8 @@ use native.Mathlib.Omega.{arith}
 use borrow.Author.Tests.{eqb-true, eqb-false, eq-eqb, ne-eqb}
 use lib.Dec.{eqb}
 use lib.ListN.{length, length-append}
-use Rattle.unicode.specs.Choice.{pick}
-use Rattle.unicode.specs.ChoiceLaws.{pick-elim}
+use Rattle.utf8.specs.Choice.{pick}
+use Rattle.utf8.specs.ChoiceLaws.{pick-elim}
 use Rattle.frame.specs.Places.{place, rangeOf}
 use Rattle.frame.specs.Spans.{spanBetween}
 use Rattle.frame.specs.declared.Frame.{Frame}
@@ -19,166 +19,175 @@ use Rattle.placeholder.specs.declared.MaybeSpan.{MaybeSpan}
 use Rattle.placeholder.specs.declared.Place.{Place}
 use Rattle.placeholder.specs.declared.Spec.{Spec}
 use Rattle.placeholder.specs.declared.position.Found.{Found}
-use Rattle.quick.specs.Tellings.{foundOf, countOf, widthOf, countSpan, fillOf, kindSpan, afterStar, specOf, argumentOf, nextOf}
-use Rattle.quick.specs.declared.Kind.{Kind}
-use Rattle.quick.specs.declared.Part.{Part}
+use Rattle.reading.specs.Steps.{stateOf}
+use Rattle.reading.specs.declared.State.{State}
+use Rattle.quick.specs.Tellings.{foundOf, countOf, widthOf, countSpan, fillOf, typeSpan, afterStar, specOf, argumentOf, nextOf}
+use Rattle.quick.specs.declared.TypeTold.{TypeTold}
+use Rattle.quick.specs.declared.PartTold.{PartTold}
 use Rattle.quick.specs.declared.SpecTold.{SpecTold}
-use Rattle.quick.specs.declared.Told.{Told}
+use Rattle.quick.specs.declared.PlaceholderTold.{PlaceholderTold}
 use Rattle.words.specs.Laid.{laid}
 use Rattle.words.specs.LaidLaws.{laid-on, fillWords-length, placeWords-length, countWords-length, specWords-length, zeros-length}
 use Rattle.words.specs.Layout.{lowOf, four, none, bitOf, alignOf, signOf, placeTag, placeWords, fillWords, spanWords, countData, nameSpanEnd, countWords, headWords, specWords, argumentWords, zeros}
 use Rattle.words.proofs.Laying.{laying-first, laying-on, laying-last}
-use Rattle.fills.specs.Lane.{placeOf, toldHead, nameWords}
+use Rattle.fills.specs.Lane.{placeOf, toldHead, nameWords, toldState}
 
 -- NUMBERS OF ARGUMENTS: a star takes one at most
-pub star-few : (n : ℕ) (p : Part) → afterStar n p ≤ n + 1
+pub star-few : (n : ℕ) (p : PartTold) → afterStar n p ≤ n + 1
 unfolding afterStar
-star-few n p = pick-elim (λ (m : ℕ). m ≤ n + 1) (eqb (p .kind) 3) (λ _. omega arith) (λ _. omega arith)
+star-few n p = pick-elim (λ (m : ℕ). m ≤ n + 1) (eqb (p .tag) 3) (λ _. omega arith) (λ _. omega arith)
 
--- THE PLACE by its kind: nothing, a number, a word
-module _ (at : ℕ) (p : Part) where
-  found-none : p .kind ≡ 0 → foundOf at p ≡ Found.Nothing
+-- THE PLACE by its tag: nothing, a number, a word
+module _ (at : ℕ) (p : PartTold) where
+  found-none : p .tag ≡ 0 → foundOf at p ≡ Found.Nothing
   unfolding foundOf pick
-  found-none e = rw (eq-eqb (p .kind) 0 e)
+  found-none e = rw (eq-eqb (p .tag) 0 e)
 
-  module _ (some : p .kind ≡ 0 → ⊥) where
-    found-number : p .kind ≡ 1 → foundOf at p ≡ Found.Number (p .value)
+  module _ (some : p .tag ≡ 0 → ⊥) where
+    found-number : p .tag ≡ 1 → foundOf at p ≡ Found.Number (p .value)
     unfolding foundOf pick
-    found-number e = rw (ne-eqb (p .kind) 0 some, eq-eqb (p .kind) 1 e)
+    found-number e = rw (ne-eqb (p .tag) 0 some, eq-eqb (p .tag) 1 e)
 
-    found-word : (p .kind ≡ 1 → ⊥) → foundOf at p ≡ Found.Word (rangeOf (place at) (place (p .end)))
+    found-word : (p .tag ≡ 1 → ⊥) → foundOf at p ≡ Found.Word (rangeOf (place at) (place (p .end)))
     unfolding foundOf pick
-    found-word e = rw (ne-eqb (p .kind) 0 some, ne-eqb (p .kind) 1 e)
+    found-word e = rw (ne-eqb (p .tag) 0 some, ne-eqb (p .tag) 1 e)
 
   module _ (n : ℕ) where
-    pub place-next : p .kind ≡ 0 → placeOf at p n ≡ Place.Next n
+    pub place-next : p .tag ≡ 0 → placeOf at p n ≡ Place.Next n
     unfolding placeOf
     place-next e = ap (λ (o : Found). resolved o n .place) (found-none e)
 
-    pub place-number : (p .kind ≡ 0 → ⊥) → p .kind ≡ 1 → placeOf at p n ≡ Place.At (p .value)
+    pub place-number : (p .tag ≡ 0 → ⊥) → p .tag ≡ 1 → placeOf at p n ≡ Place.At (p .value)
     unfolding placeOf
     place-number some e = ap (λ (o : Found). resolved o n .place) (found-number some e)
 
-    pub place-word : (p .kind ≡ 0 → ⊥) → (p .kind ≡ 1 → ⊥) → placeOf at p n ≡ Place.Named (rangeOf (place at) (place (p .end)))
+    pub place-word : (p .tag ≡ 0 → ⊥) → (p .tag ≡ 1 → ⊥) → placeOf at p n ≡ Place.Named (rangeOf (place at) (place (p .end)))
     unfolding placeOf
     place-word some e = ap (λ (o : Found). resolved o n .place) (found-word some e)
 
--- a place that is not written takes an argument's number
-pub next-implied : (n : ℕ) (x : Told) → x .place .kind ≡ 0 → afterStar n (x .spec .precision) + 1 ≡ nextOf n x
-unfolding nextOf
-next-implied n x e = sym (ap (λ (o : Found). resolved o (afterStar n (x .spec .precision)) .next) (found-none 0 (x .place) e))
+-- WHERE READING STANDS afterwards: a place that is not written takes an argument's number
+module _ (s : State) (x : PlaceholderTold) where
+  abbrev starred : ℕ
+  starred = afterStar (s .next) (x .spec .precision)
 
-pub next-given : (n : ℕ) (x : Told) → (x .place .kind ≡ 0 → ⊥) → afterStar n (x .spec .precision) ≡ nextOf n x
-unfolding nextOf
-next-given n x some = go (eqb (x .place .kind) 1) refl
-  where
-    go : (b : Bool) → eqb (x .place .kind) 1 ≡ b → afterStar n (x .spec .precision) ≡ resolved (foundOf 0 (x .place)) (afterStar n (x .spec .precision)) .next
-    go true e = sym (ap (λ (o : Found). resolved o (afterStar n (x .spec .precision)) .next) (found-number 0 (x .place) some (eqb-true _ _ e)))
-    go false e = sym (ap (λ (o : Found). resolved o (afterStar n (x .spec .precision)) .next) (found-word 0 (x .place) some (eqb-false _ _ e)))
+  abbrev standing : Found → State
+  standing o = stateOf (place (x .on)) (resolved o starred .next)
+
+  pub state-implied : x .place .tag ≡ 0 → stateOf (place (x .on)) (starred + 1) ≡ toldState s x
+  unfolding toldState nextOf
+  state-implied e = sym (ap standing (found-none 0 (x .place) e))
+
+  pub state-given : (x .place .tag ≡ 0 → ⊥) → stateOf (place (x .on)) starred ≡ toldState s x
+  unfolding toldState nextOf
+  state-given some = go (eqb (x .place .tag) 1) refl
+    where
+      go : (b : Bool) → eqb (x .place .tag) 1 ≡ b → stateOf (place (x .on)) starred ≡ standing (foundOf 0 (x .place))
+      go true e = sym (ap standing (found-number 0 (x .place) some (eqb-true _ _ e)))
+      go false e = sym (ap standing (found-word 0 (x .place) some (eqb-false _ _ e)))
 
 -- TWO PARTS laid one after the other
 pub two-laid : (l : List ℕ) (k : ℕ) (a b : List ℕ) (j : ℕ) → j ≡ k + length a → k + length a + length b ≤ length l → {l₁ l₂ : List ℕ} →
     l₁ ≡ laid l k a → l₂ ≡ laid l₁ j b → l₂ ≡ laid l k (a ++ b)
 two-laid l k a b j e h p q = q ∙ rw (p, e) (laid-on l k a b h)
 
--- THE HEAD: a kind of place is its tag
-place-tag : (at : ℕ) (p : Part) (n : ℕ) → p .kind ≤ 2 → placeTag (placeOf at p n) ≡ p .kind
-place-tag at p n h = go (eqb (p .kind) 0) refl (eqb (p .kind) 1) refl
+-- THE HEAD: a place has its tag
+place-tag : (at : ℕ) (p : PartTold) (n : ℕ) → p .tag ≤ 2 → placeTag (placeOf at p n) ≡ p .tag
+place-tag at p n h = go (eqb (p .tag) 0) refl (eqb (p .tag) 1) refl
   where
-    go : (a : Bool) → eqb (p .kind) 0 ≡ a → (b : Bool) → eqb (p .kind) 1 ≡ b → placeTag (placeOf at p n) ≡ p .kind
-    go true e b d = let z = eqb-true (p .kind) 0 e in ap placeTag (place-next at p n z) ∙ sym z
+    go : (a : Bool) → eqb (p .tag) 0 ≡ a → (b : Bool) → eqb (p .tag) 1 ≡ b → placeTag (placeOf at p n) ≡ p .tag
+    go true e b d = let z = eqb-true (p .tag) 0 e in ap placeTag (place-next at p n z) ∙ sym z
     go false e true d =
-        let some = eqb-false (p .kind) 0 e in
-        let z = eqb-true (p .kind) 1 d in
+        let some = eqb-false (p .tag) 0 e in
+        let z = eqb-true (p .tag) 1 d in
         ap placeTag (place-number at p n some z) ∙ sym z
     go false e false d =
-        let some = eqb-false (p .kind) 0 e in
-        let more = eqb-false (p .kind) 1 d in
-        let two : 2 ≡ p .kind = omega arith in
+        let some = eqb-false (p .tag) 0 e in
+        let more = eqb-false (p .tag) 1 d in
+        let two : 2 ≡ p .tag = omega arith in
         ap placeTag (place-word at p n some more) ∙ two
 
-module _ (t : List ℕ) (f : Frame) (brace : ℕ) (x : Told) (n : ℕ) (placed : x .place .kind ≤ 2) (l : List ℕ) (k : ℕ) (room : k + 8 ≤ length l) where
-  pub head-laid : {l₁ l₂ : List ℕ} → l₁ ≡ laid l k (four 1 (lowOf brace) (lowOf (x .on)) (x .place .kind)) →
+module _ (t : List ℕ) (f : Frame) (brace : ℕ) (x : PlaceholderTold) (n : ℕ) (placed : x .place .tag ≤ 2) (l : List ℕ) (k : ℕ) (room : k + 8 ≤ length l) where
+  pub head-laid : {l₁ l₂ : List ℕ} → l₁ ≡ laid l k (four 1 (lowOf brace) (lowOf (x .on)) (x .place .tag)) →
       l₂ ≡ laid l₁ (k + 4) (placeWords (placeOf (brace + 1) (x .place) n) (spanBetween t f (place (brace + 1)) (place (x .to)))) →
       l₂ ≡ laid l k (toldHead t f brace x n)
   unfolding toldHead
   head-laid p q =
       let w = placeWords (placeOf (brace + 1) (x .place) n) (spanBetween t f (place (brace + 1)) (place (x .to))) in
       rw (place-tag (brace + 1) (x .place) n placed)
-      (two-laid l k (four 1 (lowOf brace) (lowOf (x .on)) (x .place .kind)) w (k + 4) (omega arith)
+      (two-laid l k (four 1 (lowOf brace) (lowOf (x .on)) (x .place .tag)) w (k + 4) (omega arith)
       (omega (arith, placeWords-length (placeOf (brace + 1) (x .place) n) (spanBetween t f (place (brace + 1)) (place (x .to))))) p q)
 
--- A COUNT: nothing, or its kind, its number and its span
-module _ (n : ℕ) (p : Part) where
-  count-implied : p .kind ≡ 0 → countOf n p ≡ Count.Implied
+-- A COUNT: nothing, or its tag, its number and its span
+module _ (n : ℕ) (p : PartTold) where
+  count-implied : p .tag ≡ 0 → countOf n p ≡ Count.Implied
   unfolding countOf pick
-  count-implied e = rw (eq-eqb (p .kind) 0 e)
+  count-implied e = rw (eq-eqb (p .tag) 0 e)
 
-  module _ (some : p .kind ≡ 0 → ⊥) where
-    count-one : p .kind ≡ 1 → countOf n p ≡ Count.Fixed (p .value)
+  module _ (some : p .tag ≡ 0 → ⊥) where
+    count-one : p .tag ≡ 1 → countOf n p ≡ Count.Fixed (p .value)
     unfolding countOf pick
-    count-one e = rw (ne-eqb (p .kind) 0 some, eq-eqb (p .kind) 1 e)
+    count-one e = rw (ne-eqb (p .tag) 0 some, eq-eqb (p .tag) 1 e)
 
-    count-two : p .kind ≡ 2 → countOf n p ≡ Count.ByArgument (p .value)
+    count-two : p .tag ≡ 2 → countOf n p ≡ Count.ByArgument (p .value)
     unfolding countOf pick
-    count-two e = rw (ne-eqb (p .kind) 0 some, ne-eqb (p .kind) 1 (λ d. omega arith), eq-eqb (p .kind) 2 e)
+    count-two e = rw (ne-eqb (p .tag) 0 some, ne-eqb (p .tag) 1 (λ d. omega arith), eq-eqb (p .tag) 2 e)
 
-    count-star : p .kind ≡ 3 → countOf n p ≡ Count.ByStar n
+    count-star : p .tag ≡ 3 → countOf n p ≡ Count.ByStar n
     unfolding countOf pick
-    count-star e = rw (ne-eqb (p .kind) 0 some, ne-eqb (p .kind) 1 (λ d. omega arith), ne-eqb (p .kind) 2 (λ d. omega arith))
+    count-star e = rw (ne-eqb (p .tag) 0 some, ne-eqb (p .tag) 1 (λ d. omega arith), ne-eqb (p .tag) 2 (λ d. omega arith))
 
     -- its numbers, with a span's first number after them
-    count-data : p .kind ≤ 3 → (four (p .kind) (pick (eqb (p .kind) 3) (lowOf n) (p .value)) 0 0 ≡ countData (countOf n p)) × (0 ≡ nameSpanEnd (countOf n p))
+    count-data : p .tag ≤ 3 → (four (p .tag) (pick (eqb (p .tag) 3) (lowOf n) (p .value)) 0 0 ≡ countData (countOf n p)) × (0 ≡ nameSpanEnd (countOf n p))
     unfolding pick
-    count-data h = go (eqb (p .kind) 1) refl (eqb (p .kind) 2) refl
+    count-data h = go (eqb (p .tag) 1) refl (eqb (p .tag) 2) refl
       where
-        go : (a : Bool) → eqb (p .kind) 1 ≡ a → (b : Bool) → eqb (p .kind) 2 ≡ b →
-            (four (p .kind) (pick (eqb (p .kind) 3) (lowOf n) (p .value)) 0 0 ≡ countData (countOf n p)) × (0 ≡ nameSpanEnd (countOf n p))
+        go : (a : Bool) → eqb (p .tag) 1 ≡ a → (b : Bool) → eqb (p .tag) 2 ≡ b →
+            (four (p .tag) (pick (eqb (p .tag) 3) (lowOf n) (p .value)) 0 0 ≡ countData (countOf n p)) × (0 ≡ nameSpanEnd (countOf n p))
         go true d b e =
-            let z = eqb-true (p .kind) 1 d in
-            rw (count-one z, ne-eqb (p .kind) 3 (λ q. omega arith)) (ap (λ (k : ℕ). four k (p .value) 0 0) z, refl)
+            let z = eqb-true (p .tag) 1 d in
+            rw (count-one z, ne-eqb (p .tag) 3 (λ q. omega arith)) (ap (λ (k : ℕ). four k (p .value) 0 0) z, refl)
         go false d true e =
-            let z = eqb-true (p .kind) 2 e in
-            rw (count-two z, ne-eqb (p .kind) 3 (λ q. omega arith)) (ap (λ (k : ℕ). four k (p .value) 0 0) z, refl)
+            let z = eqb-true (p .tag) 2 e in
+            rw (count-two z, ne-eqb (p .tag) 3 (λ q. omega arith)) (ap (λ (k : ℕ). four k (p .value) 0 0) z, refl)
         go false d false e =
-            let x = eqb-false (p .kind) 1 d in
-            let y = eqb-false (p .kind) 2 e in
-            let z : p .kind ≡ 3 = omega arith in
-            rw (count-star z, eq-eqb (p .kind) 3 z) (ap (λ (k : ℕ). four k (lowOf n) 0 0) z, refl)
+            let x = eqb-false (p .tag) 1 d in
+            let y = eqb-false (p .tag) 2 e in
+            let z : p .tag ≡ 3 = omega arith in
+            rw (count-star z, eq-eqb (p .tag) 3 z) (ap (λ (k : ℕ). four k (lowOf n) 0 0) z, refl)
 
-module _ (t : List ℕ) (f : Frame) (from n : ℕ) (p : Part) where
-  span-none : p .kind ≡ 0 → countSpan t f from p ≡ MaybeSpan.Absent
+module _ (t : List ℕ) (f : Frame) (from n : ℕ) (p : PartTold) where
+  span-none : p .tag ≡ 0 → countSpan t f from p ≡ MaybeSpan.Absent
   unfolding countSpan pick
-  span-none e = rw (eq-eqb (p .kind) 0 e)
+  span-none e = rw (eq-eqb (p .tag) 0 e)
 
-  span-some : (p .kind ≡ 0 → ⊥) → countSpan t f from p ≡ MaybeSpan.Present (spanBetween t f (place from) (place (p .end)))
+  span-some : (p .tag ≡ 0 → ⊥) → countSpan t f from p ≡ MaybeSpan.Present (spanBetween t f (place from) (place (p .end)))
   unfolding countSpan pick
-  span-some e = rw (ne-eqb (p .kind) 0 e)
+  span-some e = rw (ne-eqb (p .tag) 0 e)
 
-  pub count-none : p .kind ≡ 0 → (l : List ℕ) (k : ℕ) → k + 8 ≤ length l → {l₁ l₂ : List ℕ} → l₁ ≡ laid l k none → l₂ ≡ laid l₁ (k + 4) none →
+  pub count-none : p .tag ≡ 0 → (l : List ℕ) (k : ℕ) → k + 8 ≤ length l → {l₁ l₂ : List ℕ} → l₁ ≡ laid l k none → l₂ ≡ laid l₁ (k + 4) none →
       l₂ ≡ laid l k (countWords (countOf n p) (countSpan t f from p))
   count-none e l k h w₁ w₂ =
       rw (count-implied n p e, span-none e) (two-laid l k none none (k + 4) (omega arith) (omega arith) w₁ w₂)
 
-  pub count-some : (p .kind ≡ 0 → ⊥) → p .kind ≤ 3 → (l : List ℕ) (k : ℕ) → k + 8 ≤ length l → {l₁ l₂ : List ℕ} →
-      l₁ ≡ laid l k (four (p .kind) (pick (eqb (p .kind) 3) (lowOf n) (p .value)) 0 0) →
+  pub count-some : (p .tag ≡ 0 → ⊥) → p .tag ≤ 3 → (l : List ℕ) (k : ℕ) → k + 8 ≤ length l → {l₁ l₂ : List ℕ} →
+      l₁ ≡ laid l k (four (p .tag) (pick (eqb (p .tag) 3) (lowOf n) (p .value)) 0 0) →
       l₂ ≡ laid l₁ (k + 4) (four 0 1 (lowOf (spanBetween t f (place from) (place (p .end)) .start .0)) (lowOf (spanBetween t f (place from) (place (p .end)) .end .0))) →
       l₂ ≡ laid l k (countWords (countOf n p) (countSpan t f from p))
   count-some e h l k room w₁ w₂ =
       let s = spanBetween t f (place from) (place (p .end)) in
       let d = count-data n p e h in
       rw (span-some e, ← d .0, ← d .1)
-      (two-laid l k (four (p .kind) (pick (eqb (p .kind) 3) (lowOf n) (p .value)) 0 0) (four 0 1 (lowOf (s .start .0)) (lowOf (s .end .0))) (k + 4) (omega arith) (omega arith) w₁ w₂)
+      (two-laid l k (four (p .tag) (pick (eqb (p .tag) 3) (lowOf n) (p .value)) 0 0) (four 0 1 (lowOf (s .start .0)) (lowOf (s .end .0))) (k + 4) (omega arith) (omega arith) w₁ w₂)
 
 -- A WIDTH: a name, or any other count
-module _ (t : List ℕ) (f : Frame) (from word n : ℕ) (p : Part) where
-  pub width-name : p .kind ≡ 4 → nameWords t f from word (p .end) ≡ countWords (widthOf t f n from word p) (countSpan t f from p)
+module _ (t : List ℕ) (f : Frame) (from word n : ℕ) (p : PartTold) where
+  pub width-name : p .tag ≡ 4 → nameWords t f from word (p .end) ≡ countWords (widthOf t f n from word p) (countSpan t f from p)
   unfolding nameWords widthOf pick
-  width-name e = rw (eq-eqb (p .kind) 4 e, span-some t f from n p (λ z. omega arith))
+  width-name e = rw (eq-eqb (p .tag) 4 e, span-some t f from n p (λ z. omega arith))
 
-  pub width-count : (p .kind ≡ 4 → ⊥) → countOf n p ≡ widthOf t f n from word p
+  pub width-count : (p .tag ≡ 4 → ⊥) → countOf n p ≡ widthOf t f n from word p
   unfolding widthOf pick
-  width-count e = rw (ne-eqb (p .kind) 4 e)
+  width-count e = rw (ne-eqb (p .tag) 4 e)
 
 -- a name's bytes and their span, then the width's span
 pub name-laid : (t : List ℕ) (f : Frame) (from word end : ℕ) (l : List ℕ) (k : ℕ) → k + 8 ≤ length l → {l₁ l₂ : List ℕ} →
@@ -192,17 +201,17 @@ name-laid t f from word end l k h w₁ w₂ =
     two-laid l k (four 4 (lowOf from) (lowOf word) (lowOf (s .start .0))) (four (lowOf (s .end .0)) 1 (lowOf (o .start .0)) (lowOf (o .end .0))) (k + 4) (omega arith) (omega arith) w₁ w₂
 
 -- A TYPE: its bytes, and a word's span
-module _ (t : List ℕ) (f : Frame) (start : ℕ) (x : Kind) where
-  pub kind-word : x .word ≡ true → (l : List ℕ) (k : ℕ) → k + 8 ≤ length l → {l₁ l₂ : List ℕ} → l₁ ≡ laid l k (four (lowOf start) (lowOf (x .end)) 0 0) →
+module _ (t : List ℕ) (f : Frame) (start : ℕ) (x : TypeTold) where
+  pub type-word : x .word ≡ true → (l : List ℕ) (k : ℕ) → k + 8 ≤ length l → {l₁ l₂ : List ℕ} → l₁ ≡ laid l k (four (lowOf start) (lowOf (x .end)) 0 0) →
       l₂ ≡ laid l₁ (k + 4) (four 0 1 (lowOf (spanBetween t f (place start) (place (x .end)) .start .0)) (lowOf (spanBetween t f (place start) (place (x .end)) .end .0))) →
-      l₂ ≡ laid l k (four (lowOf start) (lowOf (x .end)) 0 0 ++ spanWords 0 (kindSpan t f start x))
-  unfolding kindSpan pick
-  kind-word e l k h w₁ w₂ = rw e (two-laid l k (four (lowOf start) (lowOf (x .end)) 0 0) (four 0 1 (lowOf (spanBetween t f (place start) (place (x .end)) .start .0)) (lowOf (spanBetween t f (place start) (place (x .end)) .end .0))) (k + 4) (omega arith) (omega arith) w₁ w₂)
+      l₂ ≡ laid l k (four (lowOf start) (lowOf (x .end)) 0 0 ++ spanWords 0 (typeSpan t f start x))
+  unfolding typeSpan pick
+  type-word e l k h w₁ w₂ = rw e (two-laid l k (four (lowOf start) (lowOf (x .end)) 0 0) (four 0 1 (lowOf (spanBetween t f (place start) (place (x .end)) .start .0)) (lowOf (spanBetween t f (place start) (place (x .end)) .end .0))) (k + 4) (omega arith) (omega arith) w₁ w₂)
 
-  pub kind-sign : x .word ≡ false → (l : List ℕ) (k : ℕ) → k + 8 ≤ length l → {l₁ l₂ : List ℕ} → l₁ ≡ laid l k (four (lowOf start) (lowOf (x .end)) 0 0) →
-      l₂ ≡ laid l₁ (k + 4) none → l₂ ≡ laid l k (four (lowOf start) (lowOf (x .end)) 0 0 ++ spanWords 0 (kindSpan t f start x))
-  unfolding kindSpan pick
-  kind-sign e l k h w₁ w₂ = rw e (two-laid l k (four (lowOf start) (lowOf (x .end)) 0 0) none (k + 4) (omega arith) (omega arith) w₁ w₂)
+  pub type-sign : x .word ≡ false → (l : List ℕ) (k : ℕ) → k + 8 ≤ length l → {l₁ l₂ : List ℕ} → l₁ ≡ laid l k (four (lowOf start) (lowOf (x .end)) 0 0) →
+      l₂ ≡ laid l₁ (k + 4) none → l₂ ≡ laid l k (four (lowOf start) (lowOf (x .end)) 0 0 ++ spanWords 0 (typeSpan t f start x))
+  unfolding typeSpan pick
+  type-sign e l k h w₁ w₂ = rw e (two-laid l k (four (lowOf start) (lowOf (x .end)) 0 0) none (k + 4) (omega arith) (omega arith) w₁ w₂)
 
 -- THE SPEC: its parts are laid one after another
 module _ (t : List ℕ) (f : Frame) (at n : ℕ) (x : SpecTold) (l : List ℕ) (k : ℕ) (room : k + 32 ≤ length l) where
@@ -210,7 +219,7 @@ module _ (t : List ℕ) (f : Frame) (at n : ℕ) (x : SpecTold) (l : List ℕ) (
       l₂ ≡ laid l₁ (k + 4) (four (alignOf (x .align)) (signOf (x .sign)) (bitOf (x .alternate)) (bitOf (x .zero))) →
       l₃ ≡ laid l₂ (k + 8) (countWords (widthOf t f n (x .from) (x .word) (x .width)) (countSpan t f (x .from) (x .width))) →
       l₄ ≡ laid l₃ (k + 16) (countWords (countOf n (x .precision)) (countSpan t f (x .width .end) (x .precision))) →
-      l₅ ≡ laid l₄ (k + 24) (four (lowOf (x .precision .end)) (lowOf (x .kind .end)) 0 0 ++ spanWords 0 (kindSpan t f (x .precision .end) (x .kind))) →
+      l₅ ≡ laid l₄ (k + 24) (four (lowOf (x .precision .end)) (lowOf (x .typed .end)) 0 0 ++ spanWords 0 (typeSpan t f (x .precision .end) (x .typed))) →
       l₅ ≡ laid l k (specWords (specOf t f at n x))
   unfolding specOf specWords
   spec-laid w₁ w₂ w₃ w₄ w₅ =
@@ -227,14 +236,14 @@ module _ (t : List ℕ) (f : Frame) (at n : ℕ) (x : SpecTold) (l : List ℕ) (
       laying-last e w₅
 
 -- THE WHOLE: the head, and then the spec
-head-length : (t : List ℕ) (f : Frame) (brace : ℕ) (x : Told) (n : ℕ) → length (toldHead t f brace x n) ≡ 8
+head-length : (t : List ℕ) (f : Frame) (brace : ℕ) (x : PlaceholderTold) (n : ℕ) → length (toldHead t f brace x n) ≡ 8
 unfolding toldHead
 head-length t f brace x n =
     let p = placeOf (brace + 1) (x .place) n in
     let s = spanBetween t f (place (brace + 1)) (place (x .to)) in
     omega (arith, length-append (headWords 1 (rangeOf (place brace) (place (x .on))) (placeTag p)) (placeWords p s), placeWords-length p s)
 
-module _ (t : List ℕ) (f : Frame) (brace : ℕ) (x : Told) (n : ℕ) where
+module _ (t : List ℕ) (f : Frame) (brace : ℕ) (x : PlaceholderTold) (n : ℕ) where
   whole : toldHead t f brace x (afterStar n (x .spec .precision)) ++ specWords (argumentOf t f brace n x .spec) ≡ argumentWords (argumentOf t f brace n x)
   unfolding argumentWords argumentOf toldHead placeOf
   whole =
@@ -258,7 +267,7 @@ module _ (t : List ℕ) (f : Frame) (brace : ℕ) (x : Told) (n : ℕ) where
   pub told-whole : x .colon ≡ true → toldHead t f brace x (afterStar n (x .spec .precision)) ++ specWords (specOf t f (x .to + 1) n (x .spec)) ≡ argumentWords (argumentOf t f brace n x)
   told-whole e = ap (λ (s : Spec). toldHead t f brace x (afterStar n (x .spec .precision)) ++ specWords s) (sym (spec-some e)) ∙ whole
 
-module _ (t : List ℕ) (f : Frame) (brace : ℕ) (x : Told) (n : ℕ) (l : List ℕ) (k : ℕ) (room : k + 40 ≤ length l) where
+module _ (t : List ℕ) (f : Frame) (brace : ℕ) (x : PlaceholderTold) (n : ℕ) (l : List ℕ) (k : ℕ) (room : k + 40 ≤ length l) where
   -- no spec is 24 zeros, an empty type where the place ends, and four more
   pub bare-laid : {l₁ l₂ l₃ l₄ : List ℕ} → l₁ ≡ laid l k (toldHead t f brace x n) → l₂ ≡ laid l₁ (k + 8) zeros →
       l₃ ≡ laid l₂ (k + 32) (four (lowOf (x .to)) (lowOf (x .to)) 0 0) → l₄ ≡ laid l₃ (k + 36) none →

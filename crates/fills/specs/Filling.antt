@@ -4,18 +4,11 @@ use mathlib.Core.Path.{_≡_}
 use mathlib.Core.List.{List}
 use lib.ListN.{length}
 use Rattle.frame.specs.declared.Frame.{Frame}
-use Rattle.placeholder.specs.declared.Mode.{Mode}
-use Rattle.reading.specs.Lists.{gather, pieces, errors}
+use Rattle.frame.specs.declared.Mode.{Mode}
+use Rattle.reading.specs.Lists.{pieces, errors}
 use Rattle.reading.specs.Written.{over}
-use Rattle.words.specs.Layout.{pieceWords, errorWords}
+use Rattle.words.specs.Calls.{piecesIn, errorsIn}
 use Rattle.fills.specs.declared.run.Filled.{Filled}
-
--- the numbers of all pieces, and of all error records
-unfoldable pub piecesIn : List ℕ → Frame → Mode → List ℕ
-piecesIn t f m = gather pieceWords (pieces t f m)
-
-unfoldable pub errorsIn : List ℕ → Frame → Mode → List ℕ
-errorsIn t f m = gather errorWords (errors t f m)
 
 -- both lists are filled, and r says how many records they have
 pub record Fills (t : List ℕ) (f : Frame) (m : Mode) (ps ps′ es es′ : List ℕ) (r : Filled) : Type 0 where

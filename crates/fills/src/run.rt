@@ -1,16 +1,16 @@
 // A text's pieces and error records, written over the first numbers of two lent lists.
-use crate::turns::next_turn;
+use crate::step::write_next;
 use frame::Frame;
+use frame::Mode;
 use frame::TextPlace;
-use placeholder::Mode;
-use plain::Marks;
 use reading::State;
+use writing::Extent;
 ghost use Prim.Native.Nat.{_*_, _≤_};
 ghost use lib.ListN.{length};
-ghost use Rattle.frame.specs.Spans.{Small};
+ghost use Rattle.frame.specs.Bounds.{Small};
 ghost use Rattle.reading.specs.Lists.{pieces as piecesOf, errors as errorsOf};
 ghost use Rattle.fills.specs.Filling.{Fills};
-ghost use Rattle.plain.specs.Turning.{fronts as frontsOf};
+ghost use Rattle.writing.specs.StepsWritten.{fronts as frontsOf};
 ghost use Rattle.fills.specs.Lane.{slots, Ran};
 
 // How many pieces and error records a text has.
@@ -28,7 +28,7 @@ fn run(
     fronts: usize,
     pieces: &mut [u32],
     errors: &mut [u32],
-) -> Marks
+) -> Extent
     requires { ⌜ Small (now text) frame × (40 * length (piecesOf (now text) frame mode) ≤ length (now pieces)) × (16 * length (errorsOf (now text) frame mode) ≤ length (now errors)) × (fronts ≤ length (frontsOf (slots (now text) frame mode))) ⌝ }
     ensures { λ r. ⌜ Ran (now (text .entry)) frame mode fronts (now (pieces .entry)) (now (errors .entry)) r (now (pieces .exit)) (now (errors .exit)) ⌝ }
 {
@@ -36,7 +36,7 @@ fn run(
         at: TextPlace(0),
         next: 0,
     };
-    let mut marks = Marks {
+    let mut extent = Extent {
         pieces: 0,
         low: fronts,
         high: fronts,
@@ -44,15 +44,15 @@ fn run(
     };
     let mut left = text.len() + 1;
     while 0 < left {
-        let turn = next_turn(text, frame, mode, state, &mut *pieces, &mut *errors, marks);
-        marks = turn.marks;
-        if !turn.more {
-            return marks;
+        let step = write_next(text, frame, mode, state, &mut *pieces, &mut *errors, extent);
+        extent = step.extent;
+        if !step.more {
+            return extent;
         }
-        state = turn.state;
+        state = step.state;
         left -= 1;
     }
-    marks
+    extent
 }
 
 // The pieces and the error records of a text, and how many there are. A text without records of the front is read once.

@@ -8,8 +8,8 @@ use native.Mathlib.Omega.{arith}
 use lib.Dec.{eqb}
 use lib.ListN.{length, getD, take, drop, length-append, length-drop, length-replicate, getD-replicate, drop-of-length-le}
 use lib.Seq.{drop-cons, drop-drop, take-all, length-take-le}
-use Rattle.unicode.specs.Choice.{both}
-use Rattle.unicode.specs.ChoiceLaws.{both-left, both-right}
+use Rattle.utf8.specs.Choice.{both}
+use Rattle.utf8.specs.ChoiceLaws.{both-left, both-right}
 use Rattle.frame.specs.declared.Style.{Style}
 use Rattle.frame.specs.declared.Style.the-variants.{Plain, Raw}
 use Rattle.frame.specs.Frames.{hashesOf, body, hashMarks, opening, closing, rawLiteral, same, isLiteral}

@@ -9,8 +9,8 @@ use borrow.Author.Tests.{eq-eqb, ne-eqb}
 use lib.Dec.{eqb}
 use lib.ListN.{length, getD, take, drop, drop-of-length-le}
 use lib.Seq.{drop-cons}
-use Rattle.unicode.specs.Choice.{both}
-use Rattle.unicode.specs.ChoiceLaws.{not-so}
+use Rattle.utf8.specs.Choice.{both}
+use Rattle.utf8.specs.ChoiceLaws.{not-so}
 use Rattle.frame.specs.Frames.{same}
 use Rattle.frame.specs.FrameLaws.{same-equal}
 

@@ -9,11 +9,11 @@ use native.Mathlib.Omega.{arith}
 use borrow.Author.Tests.{eqb-true, eq-eqb}
 use lib.ListN.{length}
 use lib.Dec.{eqb}
-use Rattle.unicode.specs.ChoiceLaws.{both-left, both-right}
+use Rattle.utf8.specs.ChoiceLaws.{both-left, both-right}
 use Rattle.frame.specs.declared.Style.{Style}
 use Rattle.frame.specs.declared.Style.the-variants.{Plain, Raw}
 use Rattle.frame.specs.Frames.{hashesOf, body, rawLiteral, same, isLiteral, frameOf}
-use Rattle.frame.specs.Spans.{Small}
+use Rattle.frame.specs.Bounds.{Small}
 
 -- what `same` finds equal is equal
 pub same-equal : (a b : List ℕ) → same a b ≡ true → a ≡ b

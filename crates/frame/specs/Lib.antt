@@ -2,5 +2,6 @@
 pub mod Places
 pub mod Frames
 pub mod Spans
+pub mod Bounds
 pub mod FrameLaws
 pub mod Examples

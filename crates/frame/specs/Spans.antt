@@ -1,28 +1,23 @@
--- Spans of the snippet from byte places of the text. Rests on the frame and on the choice by a test of `unicode`.
-use Prim.Native.Nat.{ℕ, _+_, _≤_}
+-- Spans of the snippet from byte places of the text. Rests on the frame and on the choice by a test of `utf8`.
+use Prim.Native.Nat.{ℕ, _+_}
 use mathlib.Core.List.{List}
 use lib.ListN.{length}
 use lib.Dec.{ltb}
-use Rattle.unicode.specs.Choice.{pick}
+use Rattle.utf8.specs.Choice.{pick}
 use Rattle.frame.specs.declared.TextPlace.{TextPlace}
 use Rattle.frame.specs.declared.SnippetPlace.{SnippetPlace}
 use Rattle.frame.specs.declared.Span.{Span}
 use Rattle.frame.specs.declared.Frame.{Frame}
 use Rattle.frame.specs.Places.{snippet, spanOf}
 
--- a text within refusal 3's limit, and an offset within refusal 2's
-pub record Small (t : List ℕ) (f : Frame) : Type 0 where
-  pub text : length t ≤ 65535
-  pub quote : f .quote ≤ 257
-
--- "A character at byte i of n bytes has span i+q to i+q+n": the only conversion of a text place to a snippet place
+-- "A character at byte i of n bytes has span i+q to i+q+n": the only conversion of a text place to a snippet place (R6.1, R6.3)
 unfoldable pub toSnippet : Frame → TextPlace → SnippetPlace
 toSnippet f at = snippet (at .0 + f .quote)
 
--- where the character at a text place starts; past the text, "end"
+-- where the character at a text place starts; past the text, "end" (R6.3, R6.6)
 unfoldable pub startOf : List ℕ → Frame → TextPlace → SnippetPlace
 startOf t f at = pick (ltb (at .0) (length t)) (toSnippet f at) (f .end)
 
--- from the start of one place to the start of another; it may come out reversed
+-- from the start of one place to the start of another; it may come out reversed (R6.6, R6.7)
 unfoldable pub spanBetween : List ℕ → Frame → TextPlace → TextPlace → Span
 spanBetween t f from to = spanOf (startOf t f from) (startOf t f to)

@@ -1,10 +1,11 @@
 // Places of the text and of the snippet, and the frame of a reading: quote offset, "end", source literal or not.
-// Rests on the choice by a test of `unicode`'s specs.
+// Rests on the choice by a test of `utf8`'s specs.
 ghost use mathlib.Core.Path.{_≡_};
 ghost use Prim.Native.Nat.{_≤_};
 ghost use lib.ListN.{length};
 ghost use Rattle.frame.specs.Frames.{hashesOf, quoteOffset, body, hashMarks, opening, closing, rawLiteral, same, isLiteral, frameOf};
-ghost use Rattle.frame.specs.Spans.{Small, toSnippet, startOf, spanBetween};
+ghost use Rattle.frame.specs.Spans.{toSnippet, startOf, spanBetween};
+ghost use Rattle.frame.specs.Bounds.{Small};
 
 // A byte place in the text.
 pub struct TextPlace(pub usize);
@@ -22,6 +23,13 @@ pub struct TextRange {
 pub struct Span {
     pub start: SnippetPlace,
     pub end: SnippetPlace,
+}
+
+// Which grammar a text is read by.
+pub enum Mode {
+    Format,
+    InlineAsm,
+    Diagnostic,
 }
 
 // No style, or a raw string with so many hashes.

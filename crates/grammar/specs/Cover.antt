@@ -1,13 +1,10 @@
--- The cover of a text's bytes, with errors or without: literal views, dropped first braces and argument ranges lie end to end up to the
--- stopping place. Rests on Grammar's braces and on the reading's pieces, errors and stopping place.
+-- The cover of a text's bytes by pieces, with errors or without: literal views, dropped first braces and argument ranges lie end to end up to
+-- the stopping place. Rests on Grammar's braces and on the records that the reader declares; no reader is named here.
 use mathlib.Core.Path.{_≡_}
-use mathlib.Core.Logic.{_≢_, _⊎_}
+use mathlib.Core.Logic.{_≢_, _⊎_, _↔_}
 use mathlib.Core.List.{List, [], _∷_}
 use Prim.Native.Nat.{ℕ, _+_, _<_}
 use lib.ListN.{length, getD}
-use Rattle.frame.specs.declared.Frame.{Frame}
-use Rattle.placeholder.specs.declared.Mode.{Mode}
-use Rattle.reading.specs.Lists.{pieces, errors, stoppingPlace}
 use Rattle.reading.specs.declared.Piece.{Piece}
 use Rattle.reading.specs.declared.ErrorRecord.{ErrorRecord}
 use Rattle.grammar.specs.Grammar.{Brace, Plain}
@@ -24,11 +21,24 @@ Doubled t p = Brace (byteAt t p) × (byteAt t (p + 1) ≡ byteAt t p)
 abbrev pub Begins : List ℕ → ℕ → ℕ → Type 0
 Begins t p a = ((a ≡ p) × Plain (byteAt t p)) ⊎ ((a ≡ p + 1) × Doubled t p)
 
+-- such a view up to byte b: it is not empty, has no brace after its first byte, and "goes to the next brace or the end"
+pub record View (t : List ℕ) (p a b : ℕ) : Type 0 where
+  pub begins : Begins t p a
+  pub some : a < b
+  pub plain : (i : ℕ) → a < i → i < b → Plain (byteAt t i)
+  pub ends : (b ≡ length t) ⊎ Brace (byteAt t b)
+
+-- an argument's range from byte a to byte b: it starts there, at a `{`, and is not empty
+pub record Held (t : List ℕ) (p a b : ℕ) : Type 0 where
+  pub begins : a ≡ p
+  pub brace : byteAt t p ≡ 0x7B
+  pub some : p < b
+
 -- pieces cover the bytes from p to q, each once and in order
 abbrev pub Tiles : List ℕ → ℕ → List Piece → ℕ → Type 0
 Tiles t p [] q = p ≡ q
-Tiles t p (Piece.Literal r ∷ xs) q = Begins t p (r .start .0) × (r .start .0 < r .end .0) × Tiles t (r .end .0) xs q
-Tiles t p (Piece.Placeholder y ∷ xs) q = (y .range .start .0 ≡ p) × (p < y .range .end .0) × Tiles t (y .range .end .0) xs q
+Tiles t p (Piece.Literal r ∷ xs) q = View t p (r .start .0) (r .end .0) × Tiles t (r .end .0) xs q
+Tiles t p (Piece.Placeholder y ∷ xs) q = Held t p (y .range .start .0) (y .range .end .0) × Tiles t (y .range .end .0) xs q
 
 -- a `}` stands at byte p, and no `}` after it
 abbrev pub Lone : List ℕ → ℕ → Type 0
@@ -39,7 +49,10 @@ abbrev pub Recorded : ℕ → List ErrorRecord → Type 0
 Recorded k [] = ⊥
 Recorded k (x ∷ xs) = (x .kind ≡ k) ⊎ Recorded k xs
 
--- "cover each byte before the stopping place once, in order"; "The reader stops at the end or at a lone `}`"
-pub record Covered (t : List ℕ) (f : Frame) (m : Mode) : Type 0 where
-  pub tiles : Tiles t 0 (pieces t f m) (stoppingPlace t f m .0)
-  pub stops : (stoppingPlace t f m .0 ≡ length t) ⊎ (Lone t (stoppingPlace t f m .0) × Recorded 1 (errors t f m))
+-- "literal views, dropped first braces and argument ranges cover each byte before the stopping place once, in order."
+-- "The reader stops at the end or at a lone `}`": wherever the cover ends, and kind 1 is recorded exactly where that is a lone `}`. (R5.16)
+pub record Covered (t : List ℕ) (ps : List Piece) (es : List ErrorRecord) : Type 0 where
+  pub stop : ℕ
+  pub tiles : Tiles t 0 ps stop
+  pub stops : (stop ≡ length t) ⊎ Lone t stop
+  pub told : Recorded 1 es ↔ Lone t stop

@@ -1,50 +1,51 @@
--- DEMAND 3, stated whole: for every text that is UTF-8, every frame (style, snippet and mark) and every mode, of the lists that the public
--- call's contract cites. Definitions: Grammar, Pieces, Cover, Spanless. The work is in Device/Readings, Numbers, Covering and AnyFrame.
-use mathlib.Core.Path.{_≡_}
-use mathlib.Core.Logic.{_↔_}
+-- DEMAND 3 IS MET: for every text that is UTF-8, every frame (style, snippet and mark) and every mode, by the lists that the public call's
+-- contract cites. The page is Demand; the work is in Device/Readings, Numbers, Covering and AnyFrame.
+use mathlib.Core.Path.{_≡_, sym, _∙_}
 use mathlib.Core.List.{List, []}
 use Prim.Native.Nat.{ℕ}
 use lib.ListN.{length}
-use Rattle.unicode.specs.Utf8.{validPrefix}
+use Rattle.utf8.specs.Table37.{WellFormed}
+use Rattle.utf8.specs.Utf8.{validPrefix}
 use Rattle.frame.specs.declared.Frame.{Frame}
-use Rattle.placeholder.specs.declared.Mode.{Mode}
+use Rattle.frame.specs.declared.Mode.{Mode}
 use Rattle.reading.specs.Lists.{pieces, errors}
-use Rattle.grammar.specs.Grammar.{Element, Reading}
-use Rattle.grammar.specs.Pieces.{ArePieces, numbers, UpFrom}
-use Rattle.grammar.specs.Cover.{Covered}
+use Rattle.reading.specs.declared.Piece.{Piece}
+use Rattle.reading.specs.declared.ErrorRecord.{ErrorRecord}
+use Rattle.laws.specs.BrokenLaws.{well-whole}
+use Rattle.grammar.specs.Numbering.{numbers, UpFrom}
+use Rattle.grammar.specs.Demand.{Demand}
 use Rattle.grammar.specs.Spanless as S
-use Rattle.grammar.specs.Device.Readings.{has-reading, no-error, are-pieces, only-one}
+use Rattle.grammar.specs.Device.Readings.{has-reading, no-error, its-pieces, only-one}
 use Rattle.grammar.specs.Device.Numbers.{numbered}
 use Rattle.grammar.specs.Device.Covering.{covered}
 use Rattle.grammar.specs.Device.AnyFrame.{pieces-any, kinds-any, quotes-any}
 
--- the text is UTF-8: refusal 4 is not given
-abbrev pub Utf8 : List ℕ → Type 0
-Utf8 text = validPrefix text ≡ length text
+-- THE THEOREM, for a text that is UTF-8 as table 3-7 of the Unicode Standard has it (its cover holds of any bytes)
+pub demand : (text : List ℕ) (frame : Frame) (mode : Mode) → WellFormed text →
+    Demand mode (frame .quote) text (pieces text frame mode) (errors text frame mode)
+demand text frame mode w =
+    record {
+      exactly = (has-reading text frame mode v, λ r. no-error text frame mode v (r .0) (r .1));
+      the-only = only-one text mode v;
+      the-pieces = its-pieces text frame mode v;
+      the-numbers = in-order;
+      the-cover = covered text frame mode;
+    }
+  where
+    v : validPrefix text ≡ length text
+    v = well-whole text w
 
--- 1. "no error is recorded exactly when the text has a reading under the mode's grammar and choice rules"
-pub exactly : (text : List ℕ) (frame : Frame) (mode : Mode) → Utf8 text → (errors text frame mode ≡ []) ↔ ((es : List Element) × Reading mode text es)
-exactly text frame mode v = (has-reading text frame mode v, λ r. no-error text frame mode v (r .0) (r .1))
+    in-order : errors text frame mode ≡ [] → UpFrom 0 (numbers (pieces text frame mode))
+    in-order e =
+        let r = has-reading text frame mode v e in
+        rw (its-pieces text frame mode v (r .0) (r .1)) (numbered (frame .quote) 0 0 (r .0))
 
--- 2. "That reading is then the only one"
-pub the-only : (text : List ℕ) (mode : Mode) → Utf8 text → (es fs : List Element) → Reading mode text es → Reading mode text fs → es ≡ fs
-the-only text mode v es fs r s = only-one text mode v es fs r s
-
--- 3. "and the pieces are it,
-pub the-pieces : (text : List ℕ) (frame : Frame) (mode : Mode) → Utf8 text → (es : List Element) → Reading mode text es →
-    ArePieces 0 0 es (pieces text frame mode)
-the-pieces text frame mode v es r = are-pieces text frame mode v es r
-
--- with implicit places and stars numbered 0, 1, 2 onward, a star before its own placeholder's place."
-pub the-numbers : (text : List ℕ) (frame : Frame) (mode : Mode) → Utf8 text → errors text frame mode ≡ [] → UpFrom 0 (numbers (pieces text frame mode))
-the-numbers text frame mode v e =
-    let r = exactly text frame mode v .0 e in
-    numbered 0 0 (r .0) (pieces text frame mode) (the-pieces text frame mode v (r .0) (r .1))
-
--- 4. "With errors or without, literal views, dropped first braces and argument ranges cover each byte before the stopping place once, in order."
--- The stopping place is the end, or a lone `}` and then kind 1 is recorded. (This holds of any bytes.)
-pub the-cover : (text : List ℕ) (frame : Frame) (mode : Mode) → Covered text frame mode
-the-cover text frame mode = covered text frame mode
+-- NO FREEDOM where no error is recorded: lists that the page allows for one text, mode and quote offset are the same.
+pub no-freedom : {mode : Mode} {quote : ℕ} {text : List ℕ} {ps ps₂ : List Piece} {es es₂ : List ErrorRecord} →
+    Demand mode quote text ps es → Demand mode quote text ps₂ es₂ → es ≡ [] → (es₂ ≡ []) × (ps ≡ ps₂)
+no-freedom d d₂ e =
+    let r = d .exactly .0 e in
+    (d₂ .exactly .1 r, d .the-pieces (r .0) (r .1) ∙ sym (d₂ .the-pieces (r .0) (r .1)))
 
 -- Style, snippet and mark change neither the pieces nor the errors' kinds nor what they quote: spans alone.
 pub same-pieces : (text : List ℕ) (frame other : Frame) (mode : Mode) → S.pieces (pieces text frame mode) ≡ S.pieces (pieces text other mode)

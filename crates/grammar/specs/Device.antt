@@ -8,6 +8,7 @@ pub mod Given
 pub mod Splits
 pub mod Unique
 pub mod Stands
+pub mod Spans
 pub mod Words
 pub mod Places
 pub mod Parts
@@ -19,5 +20,6 @@ pub mod Whole
 pub mod Bytes
 pub mod Readings
 pub mod Numbers
+pub mod Alone
 pub mod Covering
 pub mod AnyFrame

@@ -1,35 +1,28 @@
 -- Worked readings, computed: the elements of nine texts, and seven texts that have none. Rests on Grammar, and on the parser of the proof.
 use mathlib.Core.Path.{_≡_, refl, ap, _∙_}
-use mathlib.Core.Bool.{Bool, true, false}
+use mathlib.Core.Bool.{true, false}
 use mathlib.Core.List.{List, [], _∷_}
 use Prim.Native.Nat.{ℕ, suc}
 use native.Mathlib.Omega.{arith}
 use lib.ListN.{length}
-use Rattle.unicode.specs.Choice.{pick, within}
-use Rattle.unicode.specs.Encode.{encode}
-use Rattle.unicode.specs.Utf8.{sequenceOf, sequenceAt, valid, validPrefix}
-use Rattle.unicode.specs.Questions.{isSpace, isStart, isContinue}
-use Rattle.unicode.specs.Space.{space}
-use Rattle.unicode.specs.Start.{start}
-use Rattle.unicode.specs.Continue.{continue}
-use Rattle.unicode.specs.Table.{member}
+use Rattle.utf8.specs.Choice.{pick, within}
+use Rattle.utf8.specs.Encode.{encode}
+use Rattle.utf8.specs.Utf8.{sequenceOf, sequenceAt, valid, validPrefix}
+use Rattle.letters.specs.Questions.{isSpace, isStart, isContinue}
+use Rattle.letters.specs.Space.{space}
+use Rattle.letters.specs.Start.{start}
+use Rattle.letters.specs.Continue.{continue}
+use Rattle.letters.specs.Table.{member}
 use Rattle.scan.specs.Characters.{isPlain}
 use Rattle.scan.specs.Words.{isDigit}
-use Rattle.placeholder.specs.declared.Mode.{Mode}
-use Rattle.grammar.specs.Grammar.{Position, next, number, word, left, right, Lead, unaligned, aligned, filled, unsigned, Width, implied, fixed, byArgument, byName, Precision, undotted, star, dot, lower, Kind, untyped, hexDebug, formatSpec, modifier, freeText, Tail, bare, colon, Element, opened, placeholder, writtenAll, utf8, Reading}
+use Rattle.frame.specs.declared.Mode.{Mode}
+use Rattle.grammar.specs.Grammar.{next, number, word, left, right, unaligned, aligned, filled, implied, fixed, byArgument, byName, undotted, star, dot, lower, untyped, hexDebug, modifier, freeText, bare, colon, Element, opened, writtenAll, utf8, Reading}
+use Rattle.grammar.specs.Cases.{held, format}
 use Rattle.grammar.specs.Device.Runs.{takeW, dropW}
 use Rattle.grammar.specs.Device.Unique.{sound, none-reads}
 use Rattle.grammar.specs.Device.Stands.{stands-one}
 use Rattle.grammar.specs.Device.Bytes.{stands-in}
 use Rattle.grammar.specs.Device.Parser.{none, some, okNumber, okWord, positionOf, hashWord, rawAt, side, alignOf, leadOf, signOf, hashOf, zeroOf, numberOf, nameOf, widthOf, dotOf, precisionOf, okDebug, hexOf, typedOf, kindOf, formatOf, modifierOf, specOf, tailOf, insideOf, closeOf, insideStep, openStep, closeStep, step, more, parse}
-
--- a placeholder of a place and what follows it
-abbrev held : Position → Tail → Element
-held p y = placeholder (record { position = p; space = []; tail = y })
-
--- a Format spec of a lead, the flag `0`, a width, a precision and a type
-abbrev sized : Lead → Bool → Width → Precision → Kind → Tail
-sized l z w p k = colon (formatSpec (record { lead = l; sign = unsigned; alternate = false; zero = z; width = w; precision = p; kind = k })) []
 
 -- elements are a reading of a text, by computing
 has : (m : Mode) (t cs : List ℕ) (es : List Element) → utf8 cs ≡ t → parse m (suc (length cs)) cs ≡ some es → Reading m t es
@@ -44,14 +37,14 @@ lacks m t cs v u h es r =
 -- `{{a`, `{:.*}{}`, `{:0$}`, `{:0}`, `{65535}`, `{:}<}`, `{a:>7.b$x?}`, `{0:b }`, `{: b }`
 pub readings :
     Reading Mode.Format (0x7B ∷ 0x7B ∷ 0x61 ∷ []) (opened (0x61 ∷ []) ∷ [])
-    × Reading Mode.Format (0x7B ∷ 0x3A ∷ 0x2E ∷ 0x2A ∷ 0x7D ∷ 0x7B ∷ 0x7D ∷ []) (held next (sized unaligned false implied star untyped) ∷ held next bare ∷ [])
-    × Reading Mode.Format (0x7B ∷ 0x3A ∷ 0x30 ∷ 0x24 ∷ 0x7D ∷ []) (held next (sized unaligned false (byArgument 0x30 []) undotted untyped) ∷ [])
-    × Reading Mode.Format (0x7B ∷ 0x3A ∷ 0x30 ∷ 0x7D ∷ []) (held next (sized unaligned true implied undotted untyped) ∷ [])
-    × Reading Mode.Format (0x7B ∷ 0x36 ∷ 0x35 ∷ 0x35 ∷ 0x33 ∷ 0x35 ∷ 0x7D ∷ []) (held (number 0x36 (0x35 ∷ 0x35 ∷ 0x33 ∷ 0x35 ∷ [])) bare ∷ [])
-    × Reading Mode.Format (0x7B ∷ 0x3A ∷ 0x7D ∷ 0x3C ∷ 0x7D ∷ []) (held next (sized (filled 0x7D left) false implied undotted untyped) ∷ [])
-    × Reading Mode.Format (0x7B ∷ 0x61 ∷ 0x3A ∷ 0x3E ∷ 0x37 ∷ 0x2E ∷ 0x62 ∷ 0x24 ∷ 0x78 ∷ 0x3F ∷ 0x7D ∷ []) (held (word 0x61 []) (sized (aligned right) false (fixed 0x37 []) (dot (byName 0x62 [])) (hexDebug lower)) ∷ [])
-    × Reading Mode.InlineAsm (0x7B ∷ 0x30 ∷ 0x3A ∷ 0x62 ∷ 0x20 ∷ 0x7D ∷ []) (held (number 0x30 []) (colon (modifier 0x62 []) (0x20 ∷ [])) ∷ [])
-    × Reading Mode.Diagnostic (0x7B ∷ 0x3A ∷ 0x20 ∷ 0x62 ∷ 0x20 ∷ 0x7D ∷ []) (held next (colon (freeText (0x20 ∷ 0x62 ∷ 0x20 ∷ [])) []) ∷ [])
+    × Reading Mode.Format (0x7B ∷ 0x3A ∷ 0x2E ∷ 0x2A ∷ 0x7D ∷ 0x7B ∷ 0x7D ∷ []) (held next [] (format unaligned false implied star untyped) ∷ held next [] bare ∷ [])
+    × Reading Mode.Format (0x7B ∷ 0x3A ∷ 0x30 ∷ 0x24 ∷ 0x7D ∷ []) (held next [] (format unaligned false (byArgument 0x30 []) undotted untyped) ∷ [])
+    × Reading Mode.Format (0x7B ∷ 0x3A ∷ 0x30 ∷ 0x7D ∷ []) (held next [] (format unaligned true implied undotted untyped) ∷ [])
+    × Reading Mode.Format (0x7B ∷ 0x36 ∷ 0x35 ∷ 0x35 ∷ 0x33 ∷ 0x35 ∷ 0x7D ∷ []) (held (number 0x36 (0x35 ∷ 0x35 ∷ 0x33 ∷ 0x35 ∷ [])) [] bare ∷ [])
+    × Reading Mode.Format (0x7B ∷ 0x3A ∷ 0x7D ∷ 0x3C ∷ 0x7D ∷ []) (held next [] (format (filled 0x7D left) false implied undotted untyped) ∷ [])
+    × Reading Mode.Format (0x7B ∷ 0x61 ∷ 0x3A ∷ 0x3E ∷ 0x37 ∷ 0x2E ∷ 0x62 ∷ 0x24 ∷ 0x78 ∷ 0x3F ∷ 0x7D ∷ []) (held (word 0x61 []) [] (format (aligned right) false (fixed 0x37 []) (dot (byName 0x62 [])) (hexDebug lower)) ∷ [])
+    × Reading Mode.InlineAsm (0x7B ∷ 0x30 ∷ 0x3A ∷ 0x62 ∷ 0x20 ∷ 0x7D ∷ []) (held (number 0x30 []) [] (colon (modifier 0x62 []) (0x20 ∷ [])) ∷ [])
+    × Reading Mode.Diagnostic (0x7B ∷ 0x3A ∷ 0x20 ∷ 0x62 ∷ 0x20 ∷ 0x7D ∷ []) (held next [] (colon (freeText (0x20 ∷ 0x62 ∷ 0x20 ∷ [])) []) ∷ [])
 unfolding utf8 encode validPrefix valid sequenceAt sequenceOf isSpace isStart isContinue space start continue member within pick isPlain isDigit takeW dropW okNumber okWord positionOf hashWord rawAt side alignOf leadOf signOf hashOf zeroOf numberOf nameOf widthOf dotOf precisionOf okDebug hexOf typedOf kindOf formatOf modifierOf specOf tailOf insideOf closeOf insideStep openStep closeStep step more parse
 readings = (
   has _ _ (0x7B ∷ 0x7B ∷ 0x61 ∷ []) _ refl refl,

@@ -5,9 +5,9 @@ use mathlib.Core.Logic.{_≢_, _⊎_}
 use mathlib.Core.Bool.{Bool, true, false}
 use mathlib.Core.List.{List, [], _∷_, _++_}
 use Prim.Native.Nat.{ℕ, _+_, _-_, _*_, _≤_}
-use Rattle.unicode.specs.Questions.{isSpace, isStart, isContinue}
-use Rattle.unicode.specs.Encode.{encode}
-use Rattle.placeholder.specs.declared.Mode.{Mode}
+use Rattle.letters.specs.Questions.{isSpace, isStart, isContinue}
+use Rattle.utf8.specs.Encode.{encode}
+use Rattle.frame.specs.declared.Mode.{Mode}
 
 -- CHARACTERS, each by its code
 
@@ -49,19 +49,20 @@ abbrev pub value : ℕ → List ℕ → ℕ
 value n [] = n
 value n (d ∷ ds) = value (n * 10 + (d - 0x30)) ds
 
--- "A number is one or more ASCII digits." "In this grammar no number passes 65,535"
+-- "A number is one or more ASCII digits." "In this grammar no number passes 65,535" (R3.7, R4.5)
 pub record Number (d : ℕ) (ds : List ℕ) : Type 0 where
   pub first : Digit d
   pub others : All Digit ds
   pub small : value 0 (d ∷ ds) ≤ 65535
 
--- "A word is one start and then continuations", "and no word is `_`"
+-- "A word is one start and then continuations", "and no word is `_`". That it is "taken as far as they go" need not be a rule: what may follow
+-- a word in a placeholder is whitespace, `:`, `$` or `}`, and none is a continuation, so a word that stopped short could not be followed. (R3.5, R4.5)
 pub record Word (c : ℕ) (r : List ℕ) : Type 0 where
   pub first : Start c
   pub others : All Continue r
   pub named : c ∷ r ≢ 0x5F ∷ []
 
--- PLACE: "A place is a number, a word, or nothing."
+-- PLACE: "A place is a number, a word, or nothing." (R4.5)
 pub data Position : Type 0 where
   next : Position
   number word : ℕ → List ℕ → Position
@@ -85,6 +86,7 @@ alignChar left = 0x3C
 alignChar right = 0x3E
 alignChar center = 0x5E
 
+-- (R4.7)
 pub data Lead : Type 0 where
   unaligned : Lead
   aligned : Alignment → Lead
@@ -109,7 +111,7 @@ abbrev pub writtenFlag : ℕ → Bool → List ℕ → List ℕ
 writtenFlag c false t = t
 writtenFlag c true t = c ∷ t
 
--- WIDTH: "A width is a number, number`$` or word`$`."
+-- WIDTH: "A width is a number, number`$` or word`$`." (R4.8)
 pub data Width : Type 0 where
   implied : Width
   fixed byArgument byName : ℕ → List ℕ → Width
@@ -126,7 +128,7 @@ FitsWidth (fixed d ds) = Number d ds
 FitsWidth (byArgument d ds) = Number d ds
 FitsWidth (byName c r) = Word c r
 
--- PRECISION: "`.` with precision"; "Precision is the same, or `*`, or nothing."
+-- PRECISION: "`.` with precision"; "Precision is the same, or `*`, or nothing." (R4.9)
 pub data Precision : Type 0 where
   undotted : Precision
   star : Precision
@@ -150,6 +152,7 @@ abbrev pub letterChar : Letter → ℕ
 letterChar lower = 0x78
 letterChar upper = 0x58
 
+-- (R4.10)
 pub data Kind : Type 0 where
   untyped : Kind
   debug : Kind
@@ -170,7 +173,7 @@ FitsKind (hexDebug x) = Unit {0}
 FitsKind (hex x) = Unit {0}
 FitsKind (typed c r) = Word c r × ((x : Letter) → c ≢ letterChar x)
 
--- FORMAT SPEC: "each part optional and in this order: fill and align; sign; `#`; `0`; width; `.` with precision; type"
+-- FORMAT SPEC: "each part optional and in this order: fill and align; sign; `#`; `0`; width; `.` with precision; type" (R4.6)
 pub record FormatSpec : Type 0 where
   pub lead : Lead
   pub sign : Signed
@@ -197,7 +200,7 @@ pub record FitsFormat (f : FormatSpec) (t : List ℕ) : Type 0 where
   -- "a `0` at the flag's place is the flag unless `$` follows directly"
   pub choice2 : (u : List ℕ) → fromZero f t ≡ 0x30 ∷ u → ((v : List ℕ) → u ≢ 0x24 ∷ v) → f .zero ≡ true
   -- "then `0$` is the width"
-  pub choice2$ : (v : List ℕ) → fromZero f t ≡ 0x30 ∷ 0x24 ∷ v → f .zero ≡ false
+  pub choice2$ : (v : List ℕ) → fromZero f t ≡ 0x30 ∷ 0x24 ∷ v → f .width ≡ byArgument 0x30 []
   pub width : FitsWidth (f .width)
   pub precision : FitsPrecision (f .precision)
   pub kind : FitsKind (f .kind)
@@ -231,7 +234,7 @@ FitsSpec Mode.Diagnostic (modifier c r) t = ⊥
 FitsSpec Mode.Diagnostic (freeText r) t = All Plain r × NextBrace t
 
 -- PLACEHOLDER, between its braces: "place, whitespace, optionally `:` and a spec, whitespace".
--- Choice 3, "whitespace before a colon, or with no colon, belongs to the place": what follows no colon has no whitespace of its own.
+-- Choice 3, "whitespace before a colon, or with no colon, belongs to the place": what follows no colon has no whitespace of its own. (R4.15)
 pub data Tail : Type 0 where
   bare : Tail
   colon : SpecText → List ℕ → Tail
@@ -244,6 +247,7 @@ abbrev pub FitsTail : Mode → Tail → List ℕ → Type 0
 FitsTail m bare t = Unit {0}
 FitsTail m (colon s w) t = FitsSpec m s (w ++ t) × All Space w
 
+-- (R4.4)
 pub record Inside : Type 0 where
   pub position : Position
   pub space : List ℕ
@@ -257,7 +261,7 @@ pub record FitsInside (m : Mode) (a : Inside) (t : List ℕ) : Type 0 where
   pub space : All Space (a .space)
   pub tail : FitsTail m (a .tail) t
 
--- ELEMENTS: "a non-empty run without braces; `{{` or `}}` with the run after it, perhaps empty; a placeholder"
+-- ELEMENTS: "a non-empty run without braces; `{{` or `}}` with the run after it, perhaps empty; a placeholder" (R4.1)
 pub data Element : Type 0 where
   run : ℕ → List ℕ → Element
   opened closed : List ℕ → Element
@@ -269,7 +273,7 @@ written (opened r) t = 0x7B ∷ 0x7B ∷ (r ++ t)
 written (closed r) t = 0x7D ∷ 0x7D ∷ (r ++ t)
 written (placeholder a) t = 0x7B ∷ writtenInside a (0x7D ∷ t)
 
--- "Each run goes to the next brace or the end."
+-- "Each run goes to the next brace or the end." (R4.2)
 abbrev pub Fits : Mode → Element → List ℕ → Type 0
 Fits m (run c r) t = Plain c × All Plain r × NextBrace t
 Fits m (opened r) t = All Plain r × NextBrace t
@@ -291,7 +295,7 @@ unfoldable pub utf8 : List ℕ → List ℕ
 utf8 [] = []
 utf8 (c ∷ cs) = encode c ++ utf8 cs
 
--- elements that fit, and whose UTF-8 is the text
+-- elements that fit, and whose UTF-8 is the text (R4.1, R4.3)
 pub record Reading (m : Mode) (text : List ℕ) (es : List Element) : Type 0 where
   pub fits : FitsAll m es []
   pub spelled : utf8 (writtenAll es []) ≡ text

@@ -1,7 +1,11 @@
--- Definitions (Grammar, Pieces, Cover, Spanless), the device of the proof (Device), the theorems (Demand3), worked readings (Examples).
+-- The page (Demand) and its definitions (Grammar, Pieces, Numbering, Cover, Spanless); the theorems (Demand3) and the device of their proof (Device);
+-- worked cases, by the definitions alone (Cases) and through the parser of the proof (Examples).
 pub mod Grammar
 pub mod Pieces
+pub mod Numbering
 pub mod Cover
+pub mod Demand
+pub mod Cases
 pub mod Spanless
 pub mod Device
 pub mod Demand3

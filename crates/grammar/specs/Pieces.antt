@@ -1,12 +1,11 @@
--- What the pieces of a reading are: each element's record, its byte ranges, and implicit places and stars by number. Spans are left to
--- the reading's own definitions. Rests on Grammar and on the records that the reader declares.
-use mathlib.Core.Path.{_≡_}
+-- The pieces of elements: every number, byte range and span of each record, from the elements, the byte where they stand, the next argument's
+-- number and the quote offset. Rests on Grammar and on the records that the reader declares; no reader is named here.
 use mathlib.Core.Bool.{false}
 use mathlib.Core.List.{List, [], _∷_}
 use Prim.Native.Nat.{ℕ, _+_}
 use lib.ListN.{length}
-use Rattle.unicode.specs.Encode.{encode}
-use Rattle.frame.specs.Places.{place, rangeOf}
+use Rattle.utf8.specs.Encode.{encode}
+use Rattle.frame.specs.Places.{place, rangeOf, snippet, spanOf}
 use Rattle.frame.specs.declared.TextRange.{TextRange}
 use Rattle.frame.specs.declared.Span.{Span}
 use Rattle.scan.specs.declared.Count.{Count}
@@ -15,12 +14,14 @@ use Rattle.placeholder.specs.declared.Fill.{Fill}
 use Rattle.placeholder.specs.declared.Align.{Align}
 use Rattle.placeholder.specs.declared.Sign.{Sign}
 use Rattle.placeholder.specs.declared.Hex.{Hex}
+use Rattle.placeholder.specs.declared.MaybeSpan.{MaybeSpan}
 use Rattle.placeholder.specs.declared.Spec.{Spec}
 use Rattle.placeholder.specs.declared.Argument.{Argument}
 use Rattle.reading.specs.declared.Piece.{Piece}
 use Rattle.grammar.specs.Grammar.{value, Position, next, number, word, Alignment, left, right, center, Lead, unaligned, aligned, filled, Signed, unsigned, plus, minus, Width, implied, fixed, byArgument, byName, Precision, undotted, star, dot, Letter, lower, upper, Kind, untyped, debug, hexDebug, hex, typed, FormatSpec, SpecText, formatSpec, unmodified, modifier, freeText, Tail, bare, colon, Inside, Element, run, opened, closed, placeholder}
 use Rattle.grammar.specs.Grammar.{writtenPosition, writtenLead, writtenSign, writtenFlag, writtenWidth, writtenPrecision, written}
 
+-- BYTES
 -- how many bytes spell a code
 unfoldable pub wide : ℕ → ℕ
 wide c = length (encode c)
@@ -32,70 +33,19 @@ size (c ∷ cs) = wide c + size cs
 
 -- the bytes from one place to another
 abbrev pub bytes : ℕ → ℕ → TextRange
-bytes p q = rangeOf (place p) (place q)
+bytes a b = rangeOf (place a) (place b)
 
 -- the bytes of codes that stand at a place
 abbrev pub bytesAt : ℕ → List ℕ → TextRange
 bytesAt p cs = bytes p (p + size cs)
 
--- A PLACE that is written at byte p, where the next argument has number n
-abbrev pub placeOf : ℕ → ℕ → Position → Place
-placeOf p n next = Place.Next n
-placeOf p n (number d ds) = Place.At (value 0 (d ∷ ds))
-placeOf p n (word c r) = Place.Named (bytesAt p (c ∷ r))
+-- WHERE an element ends: where what it writes ends
+abbrev pub endOf : ℕ → Element → ℕ
+endOf p e = p + size (written e [])
 
--- FILL, ALIGN AND SIGN
-abbrev pub IsFill : Lead → Fill → Type 0
-IsFill unaligned x = x ≡ Fill.Absent
-IsFill (aligned a) x = x ≡ Fill.Absent
-IsFill (filled c a) x = (q : Span) × (x ≡ Fill.Present c q)
-
-abbrev pub sideOf : Alignment → Align
-sideOf left = Align.Left
-sideOf right = Align.Right
-sideOf center = Align.Center
-
-abbrev pub alignOf : Lead → Align
-alignOf unaligned = Align.Unknown
-alignOf (aligned a) = sideOf a
-alignOf (filled c a) = sideOf a
-
-abbrev pub signOf : Signed → Sign
-signOf unsigned = Sign.Absent
-signOf plus = Sign.Plus
-signOf minus = Sign.Minus
-
--- A WIDTH that is written at byte p
-abbrev pub IsWidth : ℕ → Width → Count → Type 0
-IsWidth p implied x = x ≡ Count.Implied
-IsWidth p (fixed d ds) x = x ≡ Count.Fixed (value 0 (d ∷ ds))
-IsWidth p (byArgument d ds) x = x ≡ Count.ByArgument (value 0 (d ∷ ds))
-IsWidth p (byName c r) x = (q : Span) × (x ≡ Count.ByName (bytesAt p (c ∷ r)) q)
-
--- A PRECISION: a star takes the next argument's number n
-abbrev pub IsPrecision : ℕ → ℕ → Precision → Count → Type 0
-IsPrecision p n undotted x = x ≡ Count.Implied
-IsPrecision p n star x = x ≡ Count.ByStar n
-IsPrecision p n (dot w) x = IsWidth (p + 1) w x
-
--- A TYPE: its text, which for `x?` and `X?` is the `?`, and which of the two letters stands before that
-abbrev pub kindOf : ℕ → Kind → TextRange
-kindOf p untyped = bytes p p
-kindOf p debug = bytes p (p + 1)
-kindOf p (hexDebug x) = bytes (p + 1) (p + 2)
-kindOf p (hex x) = bytes p (p + 1)
-kindOf p (typed c r) = bytesAt p (c ∷ r)
-
-abbrev pub letterOf : Letter → Hex
-letterOf lower = Hex.Lower
-letterOf upper = Hex.Upper
-
-abbrev pub hexOf : Kind → Hex
-hexOf untyped = Hex.Absent
-hexOf debug = Hex.Absent
-hexOf (hexDebug x) = letterOf x
-hexOf (hex x) = Hex.Absent
-hexOf (typed c r) = Hex.Absent
+-- where what follows a place and its whitespace is written, in a placeholder at byte p
+abbrev pub tailAt : ℕ → Inside → ℕ
+tailAt p a = p + 1 + size (writtenPosition (a .position) (a .space))
 
 -- where the width, the precision and the type of a Format spec at byte p are written
 abbrev pub widthAt : ℕ → FormatSpec → ℕ
@@ -104,45 +54,10 @@ widthAt p f = p + size (writtenLead (f .lead) (writtenSign (f .sign) (writtenFla
 abbrev pub precisionAt : ℕ → FormatSpec → ℕ
 precisionAt p f = widthAt p f + size (writtenWidth (f .width) [])
 
-abbrev pub kindAt : ℕ → FormatSpec → ℕ
-kindAt p f = precisionAt p f + size (writtenPrecision (f .precision) [])
+abbrev pub typeAt : ℕ → FormatSpec → ℕ
+typeAt p f = precisionAt p f + size (writtenPrecision (f .precision) [])
 
--- A FORMAT SPEC at byte p
-pub record IsFormat (p n : ℕ) (f : FormatSpec) (x : Spec) : Type 0 where
-  pub fill : IsFill (f .lead) (x .fill)
-  pub align : x .align ≡ alignOf (f .lead)
-  pub sign : x .sign ≡ signOf (f .sign)
-  pub alternate : x .alternate ≡ f .alternate
-  pub zero : x .zero ≡ f .zero
-  pub width : IsWidth (widthAt p f) (f .width) (x .width)
-  pub precision : IsPrecision (precisionAt p f) n (f .precision) (x .precision)
-  pub hex : x .hex ≡ hexOf (f .kind)
-  pub kind : x .kind ≡ kindOf (kindAt p f) (f .kind)
-
--- a spec that has a type's text and nothing else
-pub record IsOnly (r : TextRange) (x : Spec) : Type 0 where
-  pub fill : x .fill ≡ Fill.Absent
-  pub align : x .align ≡ Align.Unknown
-  pub sign : x .sign ≡ Sign.Absent
-  pub alternate : x .alternate ≡ false
-  pub zero : x .zero ≡ false
-  pub width : x .width ≡ Count.Implied
-  pub precision : x .precision ≡ Count.Implied
-  pub hex : x .hex ≡ Hex.Absent
-  pub kind : x .kind ≡ r
-
--- THE SPEC of each mode, at byte p; "a word that is empty has the empty byte range where reading stood"
-abbrev pub IsSpec : ℕ → ℕ → SpecText → Spec → Type 0
-IsSpec p n (formatSpec f) x = IsFormat p n f x
-IsSpec p n unmodified x = IsOnly (bytesAt p []) x
-IsSpec p n (modifier c r) x = IsOnly (bytesAt p (c ∷ r)) x
-IsSpec p n (freeText r) x = IsOnly (bytesAt p r) x
-
-abbrev pub IsTail : ℕ → ℕ → Tail → Spec → Type 0
-IsTail p n bare x = IsOnly (bytesAt p []) x
-IsTail p n (colon s w) x = IsSpec (p + 1) n s x
-
--- NUMBERS: a star takes one, and a place that is not written takes one
+-- NUMBERS of arguments: a star takes the next one, and so does a place that is not written
 abbrev pub pastPrecision : ℕ → Precision → ℕ
 pastPrecision n undotted = n
 pastPrecision n star = n + 1
@@ -167,59 +82,170 @@ pastPosition n (word c r) = n
 abbrev pub pastInside : ℕ → Inside → ℕ
 pastInside n a = pastPosition (pastTail n (a .tail)) (a .position)
 
--- AN ELEMENT ends where what it writes ends
-abbrev pub endOf : ℕ → Element → ℕ
-endOf p e = p + size (written e [])
-
--- where what follows a place and its whitespace is written, in a placeholder at byte p
-abbrev pub tailAt : ℕ → Inside → ℕ
-tailAt p a = p + 1 + size (writtenPosition (a .position) (a .space))
-
--- A PLACEHOLDER at byte p: its range is brace to brace
-pub record IsArgument (p n : ℕ) (a : Inside) (x : Argument) : Type 0 where
-  pub place : x .place ≡ placeOf (p + 1) (pastTail n (a .tail)) (a .position)
-  pub spec : IsTail (tailAt p a) n (a .tail) (x .spec)
-  pub range : x .range ≡ bytes p (endOf p (placeholder a))
-
--- A PIECE: a run's view is its bytes; "A literal's view starts at the second brace of a doubled one."
-abbrev pub IsPiece : ℕ → ℕ → Element → Piece → Type 0
-IsPiece p n (run c r) x = x ≡ Piece.Literal (bytes p (endOf p (run c r)))
-IsPiece p n (opened r) x = x ≡ Piece.Literal (bytes (p + 1) (endOf p (opened r)))
-IsPiece p n (closed r) x = x ≡ Piece.Literal (bytes (p + 1) (endOf p (closed r)))
-IsPiece p n (placeholder a) x = (y : Argument) × (x ≡ Piece.Placeholder y) × IsArgument p n a y
-
 abbrev pub past : ℕ → Element → ℕ
 past n (run c r) = n
 past n (opened r) = n
 past n (closed r) = n
 past n (placeholder a) = pastInside n a
 
--- THE PIECES of elements that stand from byte p on, one to one and in order
-abbrev pub ArePieces : ℕ → ℕ → List Element → List Piece → Type 0
-ArePieces p n [] [] = Unit {0}
-ArePieces p n [] (x ∷ xs) = ⊥
-ArePieces p n (e ∷ es) [] = ⊥
-ArePieces p n (e ∷ es) (x ∷ xs) = IsPiece p n e x × ArePieces (endOf p e) (past n e) es xs
+-- WHAT IS WRITTEN AT BYTE p, where the next argument has number n, as the record says it
+-- a place
+abbrev pub placeOf : ℕ → ℕ → Position → Place
+placeOf p n next = Place.Next n
+placeOf p n (number d ds) = Place.At (value 0 (d ∷ ds))
+placeOf p n (word c r) = Place.Named (bytesAt p (c ∷ r))
 
--- THE NUMBERS of implicit places and stars in pieces, in order, a placeholder's star before its place
-abbrev pub starNumber : Count → List ℕ → List ℕ
-starNumber Count.Implied ns = ns
-starNumber (Count.Fixed k) ns = ns
-starNumber (Count.ByName r q) ns = ns
-starNumber (Count.ByArgument k) ns = ns
-starNumber (Count.ByStar i) ns = i ∷ ns
+-- an align
+abbrev pub sideOf : Alignment → Align
+sideOf left = Align.Left
+sideOf right = Align.Right
+sideOf center = Align.Center
 
-abbrev pub placeNumber : Place → List ℕ → List ℕ
-placeNumber (Place.Next i) ns = i ∷ ns
-placeNumber (Place.At k) ns = ns
-placeNumber (Place.Named r) ns = ns
+abbrev pub alignOf : Lead → Align
+alignOf unaligned = Align.Unknown
+alignOf (aligned a) = sideOf a
+alignOf (filled c a) = sideOf a
 
-unfoldable pub numbers : List Piece → List ℕ
-numbers [] = []
-numbers (Piece.Literal r ∷ xs) = numbers xs
-numbers (Piece.Placeholder y ∷ xs) = starNumber (y .spec .precision) (placeNumber (y .place) (numbers xs))
+-- a sign
+abbrev pub signOf : Signed → Sign
+signOf unsigned = Sign.Absent
+signOf plus = Sign.Plus
+signOf minus = Sign.Minus
 
--- numbers that go n, n + 1, n + 2 onward
-abbrev pub UpFrom : ℕ → List ℕ → Type 0
-UpFrom n [] = Unit {0}
-UpFrom n (i ∷ ns) = (i ≡ n) × UpFrom (n + 1) ns
+-- a type's text, which for `x?` and `X?` is the `?`, and which of the two letters stands before that
+abbrev pub typeText : ℕ → Kind → TextRange
+typeText p untyped = bytes p p
+typeText p debug = bytes p (p + 1)
+typeText p (hexDebug x) = bytes (p + 1) (p + 2)
+typeText p (hex x) = bytes p (p + 1)
+typeText p (typed c r) = bytesAt p (c ∷ r)
+
+abbrev pub letterOf : Letter → Hex
+letterOf lower = Hex.Lower
+letterOf upper = Hex.Upper
+
+abbrev pub hexOf : Kind → Hex
+hexOf untyped = Hex.Absent
+hexOf debug = Hex.Absent
+hexOf (hexDebug x) = letterOf x
+hexOf (hex x) = Hex.Absent
+hexOf (typed c r) = Hex.Absent
+
+-- a spec that has a type's text and span and nothing else
+abbrev pub typeOnly : TextRange → MaybeSpan → Spec
+typeOnly r s =
+    record {
+      fill = Fill.Absent;
+      align = Align.Unknown;
+      sign = Sign.Absent;
+      alternate = false;
+      zero = false;
+      hex = Hex.Absent;
+      width = Count.Implied;
+      widthspan = MaybeSpan.Absent;
+      precision = Count.Implied;
+      precisionspan = MaybeSpan.Absent;
+      typetext = r;
+      typespan = s;
+    }
+
+-- WITH ITS SPANS, for a quote offset q
+module _ (q : ℕ) where
+  -- "A character at byte i of n bytes has span i+q to i+q+n": from one byte to another
+  abbrev pub spanned : ℕ → ℕ → Span
+  spanned a b = spanOf (snippet (a + q)) (snippet (b + q))
+
+  abbrev pub present : ℕ → ℕ → MaybeSpan
+  present a b = MaybeSpan.Present (spanned a b)
+
+  -- a fill has its character's span
+  abbrev pub fillOf : ℕ → Lead → Fill
+  fillOf p unaligned = Fill.Absent
+  fillOf p (aligned a) = Fill.Absent
+  fillOf p (filled c a) = Fill.Present c (spanned p (p + wide c))
+
+  -- a count by name has its word's span
+  abbrev pub countOf : ℕ → Width → Count
+  countOf p implied = Count.Implied
+  countOf p (fixed d ds) = Count.Fixed (value 0 (d ∷ ds))
+  countOf p (byArgument d ds) = Count.ByArgument (value 0 (d ∷ ds))
+  countOf p (byName c r) = Count.ByName (bytesAt p (c ∷ r)) (spanned p (p + size (c ∷ r)))
+
+  -- a width that stands has the span of all that is written, its `$` included
+  abbrev pub widthSpan : ℕ → Width → MaybeSpan
+  widthSpan p implied = MaybeSpan.Absent
+  widthSpan p (fixed d ds) = present p (p + size (writtenWidth (fixed d ds) []))
+  widthSpan p (byArgument d ds) = present p (p + size (writtenWidth (byArgument d ds) []))
+  widthSpan p (byName c r) = present p (p + size (writtenWidth (byName c r) []))
+
+  -- a precision: a star takes the next argument's number
+  abbrev pub precisionOf : ℕ → ℕ → Precision → Count
+  precisionOf p n undotted = Count.Implied
+  precisionOf p n star = Count.ByStar n
+  precisionOf p n (dot w) = countOf (p + 1) w
+
+  -- its span starts at its dot
+  abbrev pub precisionSpan : ℕ → Precision → MaybeSpan
+  precisionSpan p undotted = MaybeSpan.Absent
+  precisionSpan p star = present p (p + 2)
+  precisionSpan p (dot w) = present p (p + 1 + size (writtenWidth w []))
+
+  -- a type that is a word has its span, and no other has one
+  abbrev pub typeSpan : ℕ → Kind → MaybeSpan
+  typeSpan p untyped = MaybeSpan.Absent
+  typeSpan p debug = MaybeSpan.Absent
+  typeSpan p (hexDebug x) = MaybeSpan.Absent
+  typeSpan p (hex x) = MaybeSpan.Absent
+  typeSpan p (typed c r) = present p (p + size (c ∷ r))
+
+  -- A FORMAT SPEC at byte p
+  unfoldable pub formatAt : ℕ → ℕ → FormatSpec → Spec
+  formatAt p n f =
+      record {
+        fill = fillOf p (f .lead);
+        align = alignOf (f .lead);
+        sign = signOf (f .sign);
+        alternate = f .alternate;
+        zero = f .zero;
+        hex = hexOf (f .kind);
+        width = countOf (widthAt p f) (f .width);
+        widthspan = widthSpan (widthAt p f) (f .width);
+        precision = precisionOf (precisionAt p f) n (f .precision);
+        precisionspan = precisionSpan (precisionAt p f) (f .precision);
+        typetext = typeText (typeAt p f) (f .kind);
+        typespan = typeSpan (typeAt p f) (f .kind);
+      }
+
+  -- THE SPEC of each mode, its colon at byte p; a Diagnostic one's span takes in the colon
+  abbrev pub specAt : ℕ → ℕ → SpecText → Spec
+  specAt p n (formatSpec f) = formatAt (p + 1) n f
+  specAt p n unmodified = typeOnly (bytes (p + 1) (p + 1)) MaybeSpan.Absent
+  specAt p n (modifier c r) = typeOnly (bytesAt (p + 1) (c ∷ r)) (present (p + 1) (p + 1 + size (c ∷ r)))
+  specAt p n (freeText r) = typeOnly (bytesAt (p + 1) r) (present p (p + 1 + size r))
+
+  -- with no colon, the type's text is the empty range where reading stood
+  abbrev pub afterPlace : ℕ → ℕ → Tail → Spec
+  afterPlace p n bare = typeOnly (bytes p p) MaybeSpan.Absent
+  afterPlace p n (colon s w) = specAt p n s
+
+  -- A PLACEHOLDER at byte p: its range is brace to brace; choice 3, "whitespace .. belongs to the place", so the place's span takes it in
+  unfoldable pub argumentAt : ℕ → ℕ → Inside → Argument
+  argumentAt p n a =
+      record {
+        place = placeOf (p + 1) (pastTail n (a .tail)) (a .position);
+        placespan = spanned (p + 1) (tailAt p a);
+        spec = afterPlace (tailAt p a) n (a .tail);
+        range = bytes p (endOf p (placeholder a));
+      }
+
+  -- A PIECE: a run's view is its bytes; "A literal's view starts at the second brace of a doubled one."
+  abbrev pub pieceAt : ℕ → ℕ → Element → Piece
+  pieceAt p n (run c r) = Piece.Literal (bytes p (endOf p (run c r)))
+  pieceAt p n (opened r) = Piece.Literal (bytes (p + 1) (endOf p (opened r)))
+  pieceAt p n (closed r) = Piece.Literal (bytes (p + 1) (endOf p (closed r)))
+  pieceAt p n (placeholder a) = Piece.Placeholder (argumentAt p n a)
+
+  -- THE PIECES of elements that stand from byte p on, one to one and in order (R5.2, R5.3)
+  unfoldable pub piecesOf : ℕ → ℕ → List Element → List Piece
+  piecesOf p n [] = []
+  piecesOf p n (e ∷ es) = pieceAt p n e ∷ piecesOf (endOf p e) (past n e) es

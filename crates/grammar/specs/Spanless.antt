@@ -44,8 +44,8 @@ spec x =
       widthspan = maybe (x .widthspan);
       precision = count (x .precision);
       precisionspan = maybe (x .precisionspan);
-      kind = x .kind;
-      kindspan = maybe (x .kindspan);
+      typetext = x .typetext;
+      typespan = maybe (x .typespan);
     }
 
 abbrev pub argument : Argument → Argument

@@ -216,13 +216,13 @@ fn counts(out: &mut [u8], used: usize, s: Spec) -> usize {
     let widthspan = s.widthspan;
     let precision = s.precision;
     let precisionspan = s.precisionspan;
-    let kind = s.kind;
-    let kindspan = s.kindspan;
+    let typetext = s.typetext;
+    let typespan = s.typespan;
     let n = labelled_count(out, used, b" width ", width, widthspan);
     let n = labelled_count(out, n, b" precision ", precision, precisionspan);
     let n = words(out, n, b" type ");
-    let n = range(out, n, kind);
-    labelled_span(out, n, b" ", kindspan)
+    let n = range(out, n, typetext);
+    labelled_span(out, n, b" ", typespan)
 }
 
 fn argument(out: &mut [u8], used: usize, a: Argument) -> usize {

@@ -6,7 +6,7 @@ use Rattle.frame.specs.declared.Frame.{Frame}
 use Rattle.scan.specs.Characters.{spacesPast}
 use Rattle.placeholder.specs.Places.{placeRead}
 use Rattle.placeholder.specs.Specs.{specRead}
-use Rattle.placeholder.specs.declared.Mode.{Mode}
+use Rattle.frame.specs.declared.Mode.{Mode}
 use Rattle.placeholder.specs.declared.Place.{Place}
 use Rattle.placeholder.specs.declared.position.Found.{Found}
 use Rattle.placeholder.specs.declared.position.PlaceRead.{PlaceRead}
@@ -14,7 +14,7 @@ use Rattle.placeholder.specs.declared.format.SpecRead.{SpecRead}
 use Rattle.placeholder.specs.declared.between.Resolved.{Resolved}
 use Rattle.placeholder.specs.declared.between.ArgumentRead.{ArgumentRead}
 
--- a place that is not written takes the next argument
+-- a place that is not written takes the next argument (R5.4, R5.6)
 abbrev pub resolved : Found → ℕ → Resolved
 resolved Found.Nothing n = record { place = Place.Next n; next = n + 1 }
 resolved (Found.Number k) n = record { place = Place.At k; next = n }
@@ -29,17 +29,17 @@ joined from to po sp re =
       spec = sp .spec;
       at = sp .at;
       next = re .next;
-      faults =
+      flaws =
           record {
-            place = po .fault;
+            place = po .flaw;
             raw = po .raw;
             width = sp .width;
             precision = sp .precision;
-            kind = sp .kind;
+            typetext = sp .typetext;
           };
     }
 
--- "A place is counted after its spec, so a star comes first." Choice 3: "whitespace before a colon, or with no colon, belongs to the place"
+-- "A place is counted after its spec, so a star comes first." Choice 3: "whitespace before a colon, or with no colon, belongs to the place" (R5.6, R4.15)
 unfoldable pub argumentRead : List ℕ → Frame → Mode → TextPlace → ℕ → ArgumentRead
 argumentRead t f m at n =
     let po = placeRead t at in

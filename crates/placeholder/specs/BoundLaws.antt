@@ -3,7 +3,7 @@
 use Prim.Native.Nat.{ℕ, _+_, _≤_}
 use mathlib.Core.List.{List}
 use native.Mathlib.Omega.{arith}
-use Rattle.unicode.specs.ChoiceLaws.{pick-elim}
+use Rattle.utf8.specs.ChoiceLaws.{pick-elim}
 use Rattle.frame.specs.declared.TextPlace.{TextPlace}
 use Rattle.frame.specs.declared.Frame.{Frame}
 use Rattle.scan.specs.Characters.{spacesPast}
@@ -12,7 +12,7 @@ use Rattle.placeholder.specs.Format.{formatRead}
 use Rattle.placeholder.specs.Places.{placeRead}
 use Rattle.placeholder.specs.Specs.{afterColon, specRead}
 use Rattle.placeholder.specs.Arguments.{resolved, argumentRead}
-use Rattle.placeholder.specs.declared.Mode.{Mode}
+use Rattle.frame.specs.declared.Mode.{Mode}
 use Rattle.placeholder.specs.declared.position.Found.{Found}
 use Rattle.placeholder.specs.declared.format.PrecisionRead.{PrecisionRead}
 use Rattle.placeholder.specs.declared.format.SpecRead.{SpecRead}

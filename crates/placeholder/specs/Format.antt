@@ -1,5 +1,6 @@
 -- The whole Format spec after its colon: its parts one after the other.
 use Prim.Native.Nat.{ℕ}
+use Prim.Native.Char.{code}
 use mathlib.Core.List.{List}
 use Rattle.frame.specs.declared.TextPlace.{TextPlace}
 use Rattle.frame.specs.declared.Frame.{Frame}
@@ -31,23 +32,23 @@ gathered fi al si ha wi pr ty =
             widthspan = wi .span;
             precision = pr .precision;
             precisionspan = pr .span;
-            kind = ty .kind;
-            kindspan = ty .span;
+            typetext = ty .typetext;
+            typespan = ty .span;
           };
       at = ty .at;
       next = pr .next;
-      width = wi .fault;
-      precision = pr .fault;
-      kind = ty .fault;
+      width = wi .flaw;
+      precision = pr .flaw;
+      typetext = ty .flaw;
     }
 
--- "fill and align; sign `+` `-`; `#`; `0`; width; `.` with precision; type"
+-- "fill and align; sign `+` `-`; `#`; `0`; width; `.` with precision; type" (R4.6, R5.9)
 unfoldable pub formatRead : List ℕ → Frame → TextPlace → ℕ → SpecRead
 formatRead t f at n =
     let fi = fillRead t f at in
     let al = alignRead t (fi .at) in
     let si = signRead t (al .at) in
-    let ha = consumed t (si .at) 0x23 in
+    let ha = consumed t (si .at) (code "#") in
     let wi = widthRead t f (ha .at) in
     let pr = precisionRead t f (wi .at) n in
     let ty = typeRead t f (pr .at) in

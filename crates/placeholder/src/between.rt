@@ -1,14 +1,14 @@
 // All that stands between the braces of a placeholder.
-use crate::ArgumentFaults;
-use crate::Mode;
+use crate::ArgumentFlaws;
 use crate::Place;
 use crate::Spec;
 use crate::position::Found;
 use frame::Frame;
+use frame::Mode;
 use frame::TextPlace;
 ghost use mathlib.Core.Path.{_≡_};
 ghost use Prim.Native.Nat.{_<_};
-ghost use Rattle.frame.specs.Spans.{Small};
+ghost use Rattle.frame.specs.Bounds.{Small};
 ghost use Rattle.placeholder.specs.Arguments.{resolved, argumentRead};
 
 pub struct Resolved {
@@ -25,7 +25,7 @@ pub struct ArgumentRead {
     pub spec: Spec,
     pub at: TextPlace,
     pub next: usize,
-    pub faults: ArgumentFaults,
+    pub flaws: ArgumentFlaws,
 }
 
 // A place that is not written takes the next argument.
@@ -56,25 +56,25 @@ pub fn argument(text: &[u8], frame: Frame, mode: Mode, at: TextPlace, next: usiz
 {
     let placed = crate::position::position(text, at);
     let found = placed.found;
-    let placefault = placed.fault;
-    let rawfault = placed.raw;
+    let placeflaw = placed.flaw;
+    let rawflaw = placed.raw;
     let end = placed.at;
     let to = scan::ws(text, end);
     let read = crate::modes::spec(text, frame, mode, to, next);
     let spec = read.spec;
-    let widthfault = read.width;
-    let precisionfault = read.precision;
-    let kindfault = read.kind;
+    let widthflaw = read.width;
+    let precisionflaw = read.precision;
+    let typeflaw = read.typetext;
     let stars = read.next;
     let past = read.at;
     let counted = resolve(found, stars);
     let place = counted.place;
-    let faults = ArgumentFaults {
-        place: placefault,
-        raw: rawfault,
-        width: widthfault,
-        precision: precisionfault,
-        kind: kindfault,
+    let flaws = ArgumentFlaws {
+        place: placeflaw,
+        raw: rawflaw,
+        width: widthflaw,
+        precision: precisionflaw,
+        typetext: typeflaw,
     };
     ArgumentRead {
         place,
@@ -83,6 +83,6 @@ pub fn argument(text: &[u8], frame: Frame, mode: Mode, at: TextPlace, next: usiz
         spec,
         at: past,
         next: counted.next,
-        faults,
+        flaws,
     }
 }

@@ -9,11 +9,11 @@ use frame::Frame;
 use frame::TextPlace;
 use frame::TextRange;
 use scan::Count;
-use scan::Fault;
-use unicode::Seen;
+use scan::Flaw;
+use utf8::Seen;
 ghost use mathlib.Core.Path.{_≡_};
 ghost use Prim.Native.Nat.{_<_};
-ghost use Rattle.frame.specs.Spans.{Small};
+ghost use Rattle.frame.specs.Bounds.{Small};
 ghost use Rattle.placeholder.specs.Parts.{isAlign, fillRead, alignRead, signRead, isImplied, plainWidth, widthRead, afterDot, precisionRead};
 ghost use Rattle.placeholder.specs.Types.{hexType, isHexOrHash, debugType, wordType, typeRead};
 ghost use Rattle.placeholder.specs.Format.{formatRead};
@@ -38,7 +38,7 @@ pub struct WidthRead {
     pub width: Count,
     pub span: MaybeSpan,
     pub at: TextPlace,
-    pub fault: Fault,
+    pub flaw: Flaw,
 }
 
 pub struct PrecisionRead {
@@ -46,15 +46,15 @@ pub struct PrecisionRead {
     pub span: MaybeSpan,
     pub at: TextPlace,
     pub next: usize,
-    pub fault: Fault,
+    pub flaw: Flaw,
 }
 
 pub struct TypeRead {
     pub hex: Hex,
-    pub kind: TextRange,
+    pub typetext: TextRange,
     pub span: MaybeSpan,
     pub at: TextPlace,
-    pub fault: Fault,
+    pub flaw: Flaw,
 }
 
 // A spec, where reading stands after it, the next argument's number, and what its parts found wrong.
@@ -62,9 +62,9 @@ pub struct SpecRead {
     pub spec: Spec,
     pub at: TextPlace,
     pub next: usize,
-    pub width: Fault,
-    pub precision: Fault,
-    pub kind: Fault,
+    pub width: Flaw,
+    pub precision: Flaw,
+    pub typetext: Flaw,
 }
 
 // Whether an align stands at a place.
@@ -86,7 +86,7 @@ fn read_fill(text: &[u8], frame: Frame, at: TextPlace) -> FillRead
     ensures { λ r. ⌜ r ≡ fillRead (now (text .entry)) frame at ⌝ }
 {
     let i = at.0;
-    match unicode::peek(text, i) {
+    match utf8::peek(text, i) {
         Seen::Char { code, width } => {
             let past = TextPlace(i + width);
             if is_align(text, past) {
@@ -186,14 +186,14 @@ fn plain_width(text: &[u8], frame: Frame, zero: bool, at: TextPlace) -> WidthRea
     let read = scan::count_at(text, frame, at);
     let width = read.count;
     let end = read.at;
-    let fault = read.fault;
+    let flaw = read.flaw;
     if is_implied(width) {
         return WidthRead {
             zero,
             width,
             span: MaybeSpan::Absent,
             at: end,
-            fault,
+            flaw,
         };
     }
     let span = frame::span_between(text, frame, at, end);
@@ -202,7 +202,7 @@ fn plain_width(text: &[u8], frame: Frame, zero: bool, at: TextPlace) -> WidthRea
         width,
         span: MaybeSpan::Present(span),
         at: end,
-        fault,
+        flaw,
     }
 }
 
@@ -223,7 +223,7 @@ fn read_width(text: &[u8], frame: Frame, at: TextPlace) -> WidthRead
                 width: Count::ByArgument(0),
                 span: MaybeSpan::Present(span),
                 at: end,
-                fault: Fault::Clean,
+                flaw: Flaw::Clean,
             };
         }
         return plain_width(text, frame, true, past);
@@ -245,20 +245,20 @@ fn after_dot(text: &[u8], frame: Frame, dot: TextPlace, at: TextPlace, next: usi
             span: MaybeSpan::Present(span),
             at: end,
             next: next + 1,
-            fault: Fault::Clean,
+            flaw: Flaw::Clean,
         };
     }
     let read = scan::count_at(text, frame, at);
     let precision = read.count;
     let end = read.at;
-    let fault = read.fault;
+    let flaw = read.flaw;
     let span = frame::span_between(text, frame, dot, end);
     PrecisionRead {
         precision,
         span: MaybeSpan::Present(span),
         at: end,
         next,
-        fault,
+        flaw,
     }
 }
 
@@ -276,7 +276,7 @@ fn read_precision(text: &[u8], frame: Frame, at: TextPlace, next: usize) -> Prec
         span: MaybeSpan::Absent,
         at,
         next,
-        fault: Fault::Clean,
+        flaw: Flaw::Clean,
     }
 }
 
@@ -289,21 +289,21 @@ fn hex_type(text: &[u8], hex: Hex, from: TextPlace, at: TextPlace) -> TypeRead
     if debug.ate {
         return TypeRead {
             hex,
-            kind: TextRange { start: at, end },
+            typetext: TextRange { start: at, end },
             span: MaybeSpan::Absent,
             at: end,
-            fault: Fault::Clean,
+            flaw: Flaw::Clean,
         };
     }
     TypeRead {
         hex: Hex::Absent,
-        kind: TextRange {
+        typetext: TextRange {
             start: from,
             end: at,
         },
         span: MaybeSpan::Absent,
         at,
-        fault: Fault::Clean,
+        flaw: Flaw::Clean,
     }
 }
 
@@ -320,29 +320,29 @@ fn is_hex_or_hash(text: &[u8], at: TextPlace) -> bool
     scan::peek_is(text, at, b'X')
 }
 
-// After a `?` that stands at `from`: a sign of the wrong order is a fault, and is not passed.
+// After a `?` that stands at `from`: a sign of the wrong order is a flaw, and is not passed.
 fn debug_type(text: &[u8], from: TextPlace, at: TextPlace) -> TypeRead
     ensures { λ r. ⌜ r ≡ debugType (now (text .entry)) from at ⌝ }
 {
-    let kind = TextRange {
+    let typetext = TextRange {
         start: from,
         end: at,
     };
     if is_hex_or_hash(text, at) {
         return TypeRead {
             hex: Hex::Absent,
-            kind,
+            typetext,
             span: MaybeSpan::Absent,
             at,
-            fault: Fault::AfterDebug(from),
+            flaw: Flaw::AfterDebug(from),
         };
     }
     TypeRead {
         hex: Hex::Absent,
-        kind,
+        typetext,
         span: MaybeSpan::Absent,
         at,
-        fault: Fault::Clean,
+        flaw: Flaw::Clean,
     }
 }
 
@@ -352,25 +352,25 @@ pub fn word_type(text: &[u8], frame: Frame, at: TextPlace) -> TypeRead
     ensures { λ r. ⌜ r ≡ wordType (now (text .entry)) frame at ⌝ }
 {
     let read = scan::word(text, at);
-    let kind = read.word;
-    let fault = read.fault;
-    let end = kind.end;
-    if scan::is_empty(kind) {
+    let typetext = read.word;
+    let flaw = read.flaw;
+    let end = typetext.end;
+    if scan::is_empty(typetext) {
         return TypeRead {
             hex: Hex::Absent,
-            kind,
+            typetext,
             span: MaybeSpan::Absent,
             at: end,
-            fault,
+            flaw,
         };
     }
     let span = frame::span_between(text, frame, at, end);
     TypeRead {
         hex: Hex::Absent,
-        kind,
+        typetext,
         span: MaybeSpan::Present(span),
         at: end,
-        fault,
+        flaw,
     }
 }
 
@@ -415,18 +415,18 @@ pub fn format(text: &[u8], frame: Frame, at: TextPlace, next: usize) -> SpecRead
     let wide = read_width(text, frame, at);
     let width = wide.width;
     let widthspan = wide.span;
-    let widthfault = wide.fault;
+    let widthflaw = wide.flaw;
     let at = wide.at;
     let precise = read_precision(text, frame, at, next);
     let precision = precise.precision;
     let precisionspan = precise.span;
-    let precisionfault = precise.fault;
+    let precisionflaw = precise.flaw;
     let at = precise.at;
     let typed = read_type(text, frame, at);
     let hex = typed.hex;
-    let kind = typed.kind;
-    let kindspan = typed.span;
-    let kindfault = typed.fault;
+    let typetext = typed.typetext;
+    let typespan = typed.span;
+    let typeflaw = typed.flaw;
     let at = typed.at;
     let spec = Spec {
         fill,
@@ -439,15 +439,15 @@ pub fn format(text: &[u8], frame: Frame, at: TextPlace, next: usize) -> SpecRead
         widthspan,
         precision,
         precisionspan,
-        kind,
-        kindspan,
+        typetext,
+        typespan,
     };
     SpecRead {
         spec,
         at,
         next: precise.next,
-        width: widthfault,
-        precision: precisionfault,
-        kind: kindfault,
+        width: widthflaw,
+        precision: precisionflaw,
+        typetext: typeflaw,
     }
 }

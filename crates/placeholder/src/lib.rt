@@ -2,19 +2,12 @@
 use frame::Span;
 use frame::TextRange;
 use scan::Count;
-use scan::Fault;
+use scan::Flaw;
 
 pub mod position; // position.rt: the place: a number, a word, or nothing
 pub mod format; // format.rt: the Format spec, a part at a time
 pub mod modes; // modes.rt: the spec of each mode
 pub mod between; // between.rt: all between the braces
-
-// Which grammar a text is read by.
-pub enum Mode {
-    Format,
-    InlineAsm,
-    Diagnostic,
-}
 
 // Where an argument is found: the next one, the one with a number, the one with a name.
 pub enum Place {
@@ -67,8 +60,8 @@ pub struct Spec {
     pub precision: Count,
     pub precisionspan: MaybeSpan,
     // The type's text, empty where none stands.
-    pub kind: TextRange,
-    pub kindspan: MaybeSpan,
+    pub typetext: TextRange,
+    pub typespan: MaybeSpan,
 }
 
 // A placeholder's record.
@@ -81,10 +74,10 @@ pub struct Argument {
 }
 
 // What one argument found wrong, in the order of reading.
-pub struct ArgumentFaults {
-    pub place: Fault,
-    pub raw: Fault,
-    pub width: Fault,
-    pub precision: Fault,
-    pub kind: Fault,
+pub struct ArgumentFlaws {
+    pub place: Flaw,
+    pub raw: Flaw,
+    pub width: Flaw,
+    pub precision: Flaw,
+    pub typetext: Flaw,
 }

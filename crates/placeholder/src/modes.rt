@@ -3,19 +3,19 @@ use crate::Align;
 use crate::Fill;
 use crate::Hex;
 use crate::MaybeSpan;
-use crate::Mode;
 use crate::Sign;
 use crate::Spec;
 use crate::format::SpecRead;
 use crate::format::TypeRead;
 use frame::Frame;
+use frame::Mode;
 use frame::TextPlace;
 use frame::TextRange;
 use scan::Count;
-use scan::Fault;
+use scan::Flaw;
 ghost use mathlib.Core.Path.{_≡_};
 ghost use Prim.Native.Nat.{_<_};
-ghost use Rattle.frame.specs.Spans.{Small};
+ghost use Rattle.frame.specs.Bounds.{Small};
 ghost use Rattle.placeholder.specs.Specs.{typeOnly, noSpec, diagnosticType, afterColon, specRead};
 
 // A spec that has a type and nothing else.
@@ -23,9 +23,9 @@ fn type_only(typed: TypeRead, next: usize) -> SpecRead
     ensures { λ r. ⌜ r ≡ typeOnly typed next ⌝ }
 {
     let hex = typed.hex;
-    let kind = typed.kind;
-    let kindspan = typed.span;
-    let fault = typed.fault;
+    let typetext = typed.typetext;
+    let typespan = typed.span;
+    let flaw = typed.flaw;
     let at = typed.at;
     let spec = Spec {
         fill: Fill::Absent,
@@ -38,16 +38,16 @@ fn type_only(typed: TypeRead, next: usize) -> SpecRead
         widthspan: MaybeSpan::Absent,
         precision: Count::Implied,
         precisionspan: MaybeSpan::Absent,
-        kind,
-        kindspan,
+        typetext,
+        typespan,
     };
     SpecRead {
         spec,
         at,
         next,
-        width: Fault::Clean,
-        precision: Fault::Clean,
-        kind: fault,
+        width: Flaw::Clean,
+        precision: Flaw::Clean,
+        typetext: flaw,
     }
 }
 
@@ -57,10 +57,10 @@ fn no_spec(at: TextPlace, next: usize) -> SpecRead
 {
     let typed = TypeRead {
         hex: Hex::Absent,
-        kind: TextRange { start: at, end: at },
+        typetext: TextRange { start: at, end: at },
         span: MaybeSpan::Absent,
         at,
-        fault: Fault::Clean,
+        flaw: Flaw::Clean,
     };
     type_only(typed, next)
 }
@@ -74,10 +74,10 @@ fn diagnostic_type(text: &[u8], frame: Frame, colon: TextPlace, at: TextPlace) -
     let span = frame::span_between(text, frame, colon, end);
     TypeRead {
         hex: Hex::Absent,
-        kind: TextRange { start: at, end },
+        typetext: TextRange { start: at, end },
         span: MaybeSpan::Present(span),
         at: end,
-        fault: Fault::Clean,
+        flaw: Flaw::Clean,
     }
 }
 

@@ -1,7 +1,7 @@
 // The place of an argument: a number, a word, or nothing.
 use frame::TextPlace;
 use frame::TextRange;
-use scan::Fault;
+use scan::Flaw;
 use scan::Number;
 ghost use mathlib.Core.Path.{_≡_};
 ghost use Rattle.placeholder.specs.Places.{isR, rawPlace, wordPlace, placeRead};
@@ -16,8 +16,8 @@ pub enum Found {
 pub struct PlaceRead {
     pub found: Found,
     pub at: TextPlace,
-    pub fault: Fault,
-    pub raw: Fault,
+    pub flaw: Flaw,
+    pub raw: Flaw,
 }
 
 // Whether a word is `r`.
@@ -31,7 +31,7 @@ fn is_r(text: &[u8], name: TextRange) -> bool
     if letter.ate { past.0 == end.0 } else { false }
 }
 
-// After the word `r`: with `#` and a further word it is an `r#` name, which is taken without its prefix and is a fault.
+// After the word `r`: with `#` and a further word it is an `r#` name, which is taken without its prefix and is a flaw.
 fn raw_place(text: &[u8], name: TextRange) -> PlaceRead
     ensures { λ r. ⌜ r ≡ rawPlace (now (text .entry)) name ⌝ }
 {
@@ -41,23 +41,23 @@ fn raw_place(text: &[u8], name: TextRange) -> PlaceRead
     let past = hash.at;
     let read = scan::word(text, past);
     let inner = read.word;
-    let fault = read.fault;
+    let flaw = read.flaw;
     let last = inner.end;
     if hash.ate {
         if !scan::is_empty(inner) {
             return PlaceRead {
                 found: Found::Word(inner),
                 at: last,
-                fault,
-                raw: Fault::RawName(TextRange { start, end: last }),
+                flaw,
+                raw: Flaw::RawName(TextRange { start, end: last }),
             };
         }
     }
     PlaceRead {
         found: Found::Word(name),
         at: end,
-        fault: Fault::Clean,
-        raw: Fault::Clean,
+        flaw: Flaw::Clean,
+        raw: Flaw::Clean,
     }
 }
 
@@ -67,14 +67,14 @@ fn word_place(text: &[u8], at: TextPlace) -> PlaceRead
 {
     let read = scan::word(text, at);
     let name = read.word;
-    let fault = read.fault;
+    let flaw = read.flaw;
     let end = name.end;
     if scan::is_empty(name) {
         return PlaceRead {
             found: Found::Nothing,
             at,
-            fault: Fault::Clean,
-            raw: Fault::Clean,
+            flaw: Flaw::Clean,
+            raw: Flaw::Clean,
         };
     }
     if is_r(text, name) {
@@ -83,8 +83,8 @@ fn word_place(text: &[u8], at: TextPlace) -> PlaceRead
     PlaceRead {
         found: Found::Word(name),
         at: end,
-        fault,
-        raw: Fault::Clean,
+        flaw,
+        raw: Flaw::Clean,
     }
 }
 
@@ -95,14 +95,14 @@ pub fn position(text: &[u8], at: TextPlace) -> PlaceRead
     let read = scan::integer(text, at);
     let number = read.number;
     let digits = read.digits;
-    let fault = read.fault;
+    let flaw = read.flaw;
     let end = digits.end;
     match number {
         Number::Given(value) => PlaceRead {
             found: Found::Number(value),
             at: end,
-            fault,
-            raw: Fault::Clean,
+            flaw,
+            raw: Flaw::Clean,
         },
         Number::Nothing => word_place(text, at),
     }

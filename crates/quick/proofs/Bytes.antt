@@ -1,4 +1,4 @@
--- Bytes tell characters: an ASCII character, a digit, an align, a word, a run. Rests on `scan`'s laws of its leaves and `unicode`'s of characters.
+-- Bytes tell characters: an ASCII character, a digit, an align, a word, a run. Rests on `scan`'s laws of its leaves and `utf8`'s of characters.
 use Prim.Native.Nat.{ℕ, zero, suc, _+_, _≤_, _<_}
 use mathlib.Core.Path.{_≡_, refl, sym, _∙_, ap}
 use mathlib.Core.Bool.{Bool, true, false, true≢false}
@@ -7,24 +7,24 @@ use native.Mathlib.Omega.{arith}
 use borrow.Author.Tests.{eq-eqb, ne-eqb, ltb-true, ltb-false}
 use lib.Dec.{eqb, ltb}
 use lib.ListN.{length, getD, List·getD-eq-default}
-use Rattle.unicode.specs.Choice.{pick, within}
-use Rattle.unicode.specs.ChoiceLaws.{not-so, within-low, within-high}
-use Rattle.unicode.specs.Utf8.{peekAt}
-use Rattle.unicode.specs.Chars.{Ch, charsFrom, takeWhile, runEnd}
-use Rattle.unicode.specs.CharLaws.{Peeked, peeked, ended, past-end, ascii-char, char-ascii, first, none-left, run-more, run-stop, run-end}
-use Rattle.unicode.specs.Ascii.{asciiStart}
-use Rattle.unicode.specs.AsciiLaws.{ascii-start}
-use Rattle.unicode.specs.Questions.{isSpace, isContinue}
-use Rattle.unicode.specs.declared.Seen.{Seen}
-use Rattle.unicode.specs.declared.Seen.the-variants.{Char, End}
+use Rattle.utf8.specs.Choice.{pick, within}
+use Rattle.utf8.specs.ChoiceLaws.{not-so, within-low, within-high}
+use Rattle.utf8.specs.Utf8.{peekAt}
+use Rattle.utf8.specs.Chars.{Ch, charsFrom, takeWhile, runEnd}
+use Rattle.utf8.specs.CharLaws.{Peeked, peeked, ended, past-end, ascii-char, char-ascii, first, none-left, run-more, run-stop, run-end}
+use Rattle.letters.specs.Ascii.{asciiStart}
+use Rattle.letters.specs.AsciiLaws.{ascii-start}
+use Rattle.letters.specs.Questions.{isSpace, isContinue}
+use Rattle.utf8.specs.declared.Seen.{Seen}
+use Rattle.utf8.specs.declared.Seen.the-variants.{Char, End}
 use Rattle.frame.specs.Places.{place, rangeOf}
 use Rattle.scan.specs.Characters.{isAt, consumed}
 use Rattle.scan.specs.Words.{isDigit, digitsAt, numberFrom, numberRead, wordEnd, isUnderscore, wordRead}
 use Rattle.scan.specs.ScanLaws.{run-in, word-in, is-at-byte, is-at-end}
-use Rattle.scan.specs.declared.Fault.{Fault}
+use Rattle.scan.specs.declared.Flaw.{Flaw}
 use Rattle.scan.specs.declared.Number.{Number}
 use Rattle.placeholder.specs.Parts.{isAlign}
-use Rattle.quick.specs.Tellings.{blankFault}
+use Rattle.quick.specs.Tellings.{blankFlaw}
 use Rattle.quick.specs.PartsTold.{Room, alignByte, blankWord}
 
 -- a digit is between `0` and `9`
@@ -97,14 +97,14 @@ module _ (t : List ℕ) (i : ℕ) where
 
   -- nor a number
   pub no-number : isDigit (getD t i 0) ≡ false →
-      numberRead t (place i) ≡ record { number = Number.Nothing; digits = rangeOf (place i) (place i); fault = Fault.Clean }
+      numberRead t (place i) ≡ record { number = Number.Nothing; digits = rangeOf (place i) (place i); flaw = Flaw.Clean }
   unfolding numberRead numberFrom pick
   no-number n = rw (no-digit n .1, eq-eqb i i refl)
 
 -- a word, with the fault where it is `_`
 pub word-told : (t : List ℕ) (at end : ℕ) → end ≡ wordEnd t (place at) .0 →
-    wordRead t (place at) ≡ record { word = rangeOf (place at) (place end); fault = blankFault (blankWord (getD t at 0) at end) at end }
-unfolding wordRead isUnderscore blankWord blankFault
+    wordRead t (place at) ≡ record { word = rangeOf (place at) (place end); flaw = blankFlaw (blankWord (getD t at 0) at end) at end }
+unfolding wordRead isUnderscore blankWord blankFlaw
 word-told t at end e = rw (← e, at-byte t at 0x5F (omega arith) (omega arith))
 
 module _ (f : ℕ → Bool) (t : List ℕ) where

@@ -8,12 +8,12 @@ use native.Mathlib.Omega.{arith}
 use borrow.Author.Tests.{ne-eqb, ltb-true, ltb-false, le-ltb}
 use lib.Dec.{ltb}
 use lib.ListN.{length, getD}
-use Rattle.unicode.specs.Choice.{pick}
-use Rattle.unicode.specs.Chars.{takeWhile, runEnd}
-use Rattle.unicode.specs.CharLaws.{run-more}
+use Rattle.utf8.specs.Choice.{pick}
+use Rattle.utf8.specs.Chars.{takeWhile, runEnd}
+use Rattle.utf8.specs.CharLaws.{run-more}
 use Rattle.frame.specs.Places.{place, rangeOf}
 use Rattle.scan.specs.Words.{isDigit, decimal, noted, digitsAt, numberFrom, numberRead}
-use Rattle.scan.specs.declared.Fault.{Fault}
+use Rattle.scan.specs.declared.Flaw.{Flaw}
 use Rattle.scan.specs.declared.Number.{Number}
 use Rattle.scan.specs.declared.NumberRead.{NumberRead}
 use Rattle.quick.specs.PartsTold.{Room, part, NumberTold}
@@ -41,7 +41,7 @@ module _ (t : List ℕ) (n at i : ℕ) where
 
   -- no digit more: n is the number read
   rest-stop : isDigit (getD t i 0) ≡ false → n ≤ 65535 → at < i →
-      rest t n at i ≡ record { number = Number.Given n; digits = rangeOf (place at) (place i); fault = Fault.Clean }
+      rest t n at i ≡ record { number = Number.Given n; digits = rangeOf (place at) (place i); flaw = Flaw.Clean }
   unfolding rest decimal noted numberFrom pick
   rest-stop z l h =
       rw (

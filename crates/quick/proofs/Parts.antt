@@ -7,11 +7,11 @@ use native.Mathlib.Omega.{arith}
 use borrow.Author.Tests.{eqb-true, eqb-false, ltb-true, ltb-false, eq-eqb, ne-eqb}
 use lib.Dec.{eqb, ltb}
 use lib.ListN.{length, getD}
-use Rattle.unicode.specs.Choice.{pick}
-use Rattle.unicode.specs.ChoiceLaws.{pick-elim}
-use Rattle.unicode.specs.Utf8.{peekAt}
-use Rattle.unicode.specs.CharLaws.{peeked}
-use Rattle.unicode.specs.declared.Seen.the-variants.{Char, End}
+use Rattle.utf8.specs.Choice.{pick}
+use Rattle.utf8.specs.ChoiceLaws.{pick-elim}
+use Rattle.utf8.specs.Utf8.{peekAt}
+use Rattle.utf8.specs.CharLaws.{peeked}
+use Rattle.utf8.specs.declared.Seen.the-variants.{Char, End}
 use Rattle.frame.specs.Places.{place, rangeOf}
 use Rattle.scan.specs.Words.{isDigit, wordEnd, wordRead}
 use Rattle.scan.specs.Counts.{isEmpty, counted, numberCount, nameCount, countRead}
@@ -22,18 +22,18 @@ use Rattle.placeholder.specs.Places.{isR, wordPlace, placeRead}
 use Rattle.placeholder.specs.Parts.{isImplied, fillRead, afterDot, precisionRead}
 use Rattle.placeholder.specs.Types.{hexType, isHexOrHash, debugType, wordType, typeRead}
 use Rattle.placeholder.specs.declared.MaybeSpan.{MaybeSpan}
-use Rattle.quick.specs.declared.Part.{Part}
-use Rattle.quick.specs.declared.Kind.{Kind}
-use Rattle.quick.specs.Tellings.{foundOf, countOf, widthOf, countSpan, fillOf, kindSpan, afterStar, blankFault}
-use Rattle.quick.specs.PartsTold.{Known, part, endsByte, alignByte, blankWord, NumberTold, PlaceTold, FillTold, CountGiven, WidthTold, PrecisionTold, KindTold}
+use Rattle.quick.specs.declared.PartTold.{PartTold}
+use Rattle.quick.specs.declared.TypeTold.{TypeTold}
+use Rattle.quick.specs.Tellings.{foundOf, countOf, widthOf, countSpan, fillOf, typeSpan, afterStar, blankFlaw}
+use Rattle.quick.specs.PartsTold.{Known, part, endsByte, alignByte, blankWord, NumberTold, PlaceTold, FillTold, CountGiven, WidthTold, PrecisionTold, TypeKnown}
 use Rattle.quick.proofs.Bytes.{byte-in, at-byte, has, lacks, align-byte, no-number, word-told}
 
 -- a part that is not told
-abbrev pub unknown : ℕ → Part
+abbrev pub unknown : ℕ → PartTold
 unknown i = part 9 0 i false
 
 -- nothing stands
-abbrev pub none : ℕ → Part
+abbrev pub none : ℕ → PartTold
 none i = part 0 0 i false
 
 -- a word that is not `r`
@@ -48,9 +48,9 @@ not-r t at end n = go (eqb (getD t at 0) 0x72) refl
     go false y = rw (lacks t at 0x72 (omega arith) (omega arith) (eqb-false (getD t at 0) 0x72 y))
 
 -- a count is implied where nothing is told
-implied : (n : ℕ) (p : Part) → isImplied (countOf n p) ≡ eqb (p .kind) 0
+implied : (n : ℕ) (p : PartTold) → isImplied (countOf n p) ≡ eqb (p .tag) 0
 unfolding countOf pick
-implied n p = go (eqb (p .kind) 0) (eqb (p .kind) 1) (eqb (p .kind) 2)
+implied n p = go (eqb (p .tag) 0) (eqb (p .tag) 1) (eqb (p .tag) 2)
   where
     go : (a b c : Bool) →
         isImplied (pick a Count.Implied (pick b (Count.Fixed (p .value)) (pick c (Count.ByArgument (p .value)) (Count.ByStar n)))) ≡ a
@@ -60,7 +60,7 @@ implied n p = go (eqb (p .kind) 0) (eqb (p .kind) 1) (eqb (p .kind) 2)
     go false false false = refl
 
 -- a sign of a type, after which a spec is at its end
-abbrev pub signOf : List ℕ → ℕ → Kind
+abbrev pub signOf : List ℕ → ℕ → TypeTold
 signOf t at = record { ok = endsByte (getD t (at + 1) 0); word = false; blank = false; end = at + 1 }
 
 -- after such a sign no other stands
@@ -83,8 +83,8 @@ module _ {t : List ℕ} {at : ℕ} where
   place-unknown h = record { most = λ k. absurd (k refl); read = λ k. absurd (k refl); inside = h }
 
   -- a place that is a number
-  pub place-number : {p : Part} → NumberTold t at p → PlaceTold t at p
-  unfolding placeRead foundOf blankFault pick
+  pub place-number : {p : PartTold} → NumberTold t at p → PlaceTold t at p
+  unfolding placeRead foundOf blankFlaw pick
   place-number n =
       record {
         most = λ k. omega (arith, n .one k);
@@ -94,7 +94,7 @@ module _ {t : List ℕ} {at : ℕ} where
 
   -- no place
   pub place-nothing : isDigit (getD t at 0) ≡ false → wordEnd t (place at) .0 ≡ at → at ≤ length t → PlaceTold t at (none at)
-  unfolding placeRead wordPlace wordRead isEmpty foundOf blankFault pick
+  unfolding placeRead wordPlace wordRead isEmpty foundOf blankFlaw pick
   place-nothing d e h =
       record { most = λ _. omega arith; read = λ _. rw (no-number t at d, e, eq-eqb at at refl); inside = h }
 
@@ -110,9 +110,9 @@ module _ {t : List ℕ} {at : ℕ} where
         inside = rw e (word-in t (place at) h);
       }
 
-  module _ {p : Part} (n : NumberTold t at p) where
+  module _ {p : PartTold} (n : NumberTold t at p) where
     -- a count whose number is not told
-    pub count-long : p .kind ≡ 9 → CountGiven t at p
+    pub count-long : p .tag ≡ 9 → CountGiven t at p
     count-long e =
         record {
           some = λ k. absurd (k e);
@@ -147,13 +147,13 @@ module _ {t : List ℕ} {at : ℕ} where
         }
 
   -- a width that is a number
-  pub width-count : {word : ℕ} {p : Part} → CountGiven t at p → WidthTold t at word p
-  unfolding widthOf blankFault pick
+  pub width-count : {word : ℕ} {p : PartTold} → CountGiven t at p → WidthTold t at word p
+  unfolding widthOf blankFlaw pick
   width-count {p = p} g =
       record {
         most = λ k. omega (arith, g .most k);
-        read = λ k f n. rw (g .read k f n, ne-eqb (p .kind) 4 (λ e. omega (arith, g .most k)), g .whole);
-        spanned = λ k f n. rw (ne-eqb (p .kind) 4 (λ e. omega (arith, g .most k))) (implied n p);
+        read = λ k f n. rw (g .read k f n, ne-eqb (p .tag) 4 (λ e. omega (arith, g .most k)), g .whole);
+        spanned = λ k f n. rw (ne-eqb (p .tag) 4 (λ e. omega (arith, g .most k))) (implied n p);
         inside = g .inside;
       }
 
@@ -186,7 +186,7 @@ module _ {t : List ℕ} {at : ℕ} where
           read =
               λ _ f n.
               rw (no-number t at d, word-told t at word e)
-              (pick-elim (λ (r : CountRead). r ≡ counted Count.Implied (place at) (blankFault (blankWord (getD t at 0) at word) at word)) (eqb at word) (λ _. refl)
+              (pick-elim (λ (r : CountRead). r ≡ counted Count.Implied (place at) (blankFlaw (blankWord (getD t at 0) at word) at word)) (eqb at word) (λ _. refl)
               (λ q. rw (lacks t word 0x24 (omega arith) (omega arith) (b (some q)))));
           spanned = λ _ f n. refl;
           inside = h;
@@ -220,7 +220,7 @@ module _ {t : List ℕ} {at : ℕ} where
         }
 
     -- a count
-    pub precision-count : {p : Part} → (getD t (at + 1) 0 ≡ 0x2A → ⊥) → CountGiven t (at + 1) p → PrecisionTold t at p
+    pub precision-count : {p : PartTold} → (getD t (at + 1) 0 ≡ 0x2A → ⊥) → CountGiven t (at + 1) p → PrecisionTold t at p
     unfolding precisionRead afterDot countSpan afterStar pick
     precision-count {p} b g =
         record {
@@ -231,8 +231,8 @@ module _ {t : List ℕ} {at : ℕ} where
                 has t at 0x2E (omega arith) (omega arith) dot,
                 lacks t (at + 1) 0x2A (omega arith) (omega arith) b,
                 g .read k f n,
-                ne-eqb (p .kind) 0 (λ e. omega (arith, g .some k)),
-                ne-eqb (p .kind) 3 (λ e. omega (arith, g .most k)),
+                ne-eqb (p .tag) 0 (λ e. omega (arith, g .some k)),
+                ne-eqb (p .tag) 3 (λ e. omega (arith, g .most k)),
               );
           inside = g .inside;
         }
@@ -263,9 +263,9 @@ module _ {t : List ℕ} {at : ℕ} where
   fill-end e h = record { read = λ f. rw (e, eq-eqb at at refl); inside = h }
 
   -- `?`
-  pub kind-debug : getD t at 0 ≡ 0x3F → KindTold t at (signOf t at)
-  unfolding typeRead debugType isHexOrHash kindSpan blankFault pick
-  kind-debug b =
+  pub type-debug : getD t at 0 ≡ 0x3F → TypeKnown t at (signOf t at)
+  unfolding typeRead debugType isHexOrHash typeSpan blankFlaw pick
+  type-debug b =
       record {
         read =
             λ y f.
@@ -285,9 +285,9 @@ module _ {t : List ℕ} {at : ℕ} where
       }
 
   -- `x`
-  pub kind-lower : getD t at 0 ≡ 0x78 → KindTold t at (signOf t at)
-  unfolding typeRead hexType kindSpan blankFault pick
-  kind-lower b =
+  pub type-lower : getD t at 0 ≡ 0x78 → TypeKnown t at (signOf t at)
+  unfolding typeRead hexType typeSpan blankFlaw pick
+  type-lower b =
       record {
         read =
             λ y f.
@@ -299,9 +299,9 @@ module _ {t : List ℕ} {at : ℕ} where
       }
 
   -- `X`
-  pub kind-upper : getD t at 0 ≡ 0x58 → KindTold t at (signOf t at)
-  unfolding typeRead hexType kindSpan blankFault pick
-  kind-upper b =
+  pub type-upper : getD t at 0 ≡ 0x58 → TypeKnown t at (signOf t at)
+  unfolding typeRead hexType typeSpan blankFlaw pick
+  type-upper b =
       record {
         read =
             λ y f.
@@ -314,11 +314,11 @@ module _ {t : List ℕ} {at : ℕ} where
       }
 
   -- a word, or nothing
-  pub kind-word : {end : ℕ} → (getD t at 0 ≡ 0x3F → ⊥) → (getD t at 0 ≡ 0x78 → ⊥) → (getD t at 0 ≡ 0x58 → ⊥) →
+  pub type-word : {end : ℕ} → (getD t at 0 ≡ 0x3F → ⊥) → (getD t at 0 ≡ 0x78 → ⊥) → (getD t at 0 ≡ 0x58 → ⊥) →
       end ≡ wordEnd t (place at) .0 → at ≤ length t →
-      KindTold t at (record { ok = true; word = ltb at end; blank = blankWord (getD t at 0) at end; end = end })
-  unfolding typeRead wordType isEmpty kindSpan pick
-  kind-word {end} d l u e h =
+      TypeKnown t at (record { ok = true; word = ltb at end; blank = blankWord (getD t at 0) at end; end = end })
+  unfolding typeRead wordType isEmpty typeSpan pick
+  type-word {end} d l u e h =
       record {
         read =
             λ _ f.

@@ -5,8 +5,8 @@ use mathlib.Core.Bool.{Bool, true, false}
 use mathlib.Core.List.{List}
 use native.Mathlib.Omega.{arith}
 use lib.ListN.{length, getD}
-use Rattle.unicode.specs.Choice.{pick}
-use Rattle.unicode.specs.ChoiceLaws.{pick-elim}
+use Rattle.utf8.specs.Choice.{pick}
+use Rattle.utf8.specs.ChoiceLaws.{pick-elim}
 use Rattle.frame.specs.Places.{place}
 use Rattle.frame.specs.declared.Frame.{Frame}
 use Rattle.frame.specs.declared.TextPlace.{TextPlace}
@@ -18,25 +18,25 @@ use Rattle.placeholder.specs.Parts.{alignRead, signRead, plainWidth, widthRead}
 use Rattle.placeholder.specs.declared.format.AlignRead.{AlignRead}
 use Rattle.placeholder.specs.declared.format.SignRead.{SignRead}
 use Rattle.placeholder.specs.declared.format.WidthRead.{WidthRead}
-use Rattle.quick.specs.declared.Part.{Part}
-use Rattle.quick.specs.declared.Kind.{Kind}
-use Rattle.quick.specs.Tellings.{widthOf, countSpan, specOf, blankFault}
-use Rattle.quick.specs.PartsTold.{Room, Known, FillTold, WidthTold, PrecisionTold, KindTold, AllTold, SpecKnown}
+use Rattle.quick.specs.declared.PartTold.{PartTold}
+use Rattle.quick.specs.declared.TypeTold.{TypeTold}
+use Rattle.quick.specs.Tellings.{widthOf, countSpan, specOf, blankFlaw}
+use Rattle.quick.specs.PartsTold.{Room, Known, FillTold, WidthTold, PrecisionTold, TypeKnown, AllTold, SpecKnown}
 use Rattle.quick.proofs.Bytes.{lacks}
 
 -- a width that is told, with the `0` flag beside it
-abbrev flagged : List ℕ → Frame → ℕ → Bool → ℕ → ℕ → Part → WidthRead
+abbrev flagged : List ℕ → Frame → ℕ → Bool → ℕ → ℕ → PartTold → WidthRead
 flagged t f n zero from word p =
     record {
       zero = zero;
       width = widthOf t f n from word p;
       span = countSpan t f from p;
       at = place (p .end);
-      fault = blankFault (p .blank) from word;
+      flaw = blankFlaw (p .blank) from word;
     }
 
 -- it is the width that is read
-plain-told : {t : List ℕ} {at word : ℕ} {p : Part} → WidthTold t at word p → Known p → (f : Frame) (zero : Bool) (n : ℕ) →
+plain-told : {t : List ℕ} {at word : ℕ} {p : PartTold} → WidthTold t at word p → Known p → (f : Frame) (zero : Bool) (n : ℕ) →
     plainWidth t f zero (place at) ≡ flagged t f n zero at word p
 unfolding plainWidth countSpan
 plain-told w k f zero n = rw (w .read k f n, w .spanned k f n)
@@ -94,8 +94,8 @@ module _ {t : List ℕ} {from : ℕ} {al : AlignRead} {si : SignRead} {ha fl : C
   marks-room r i = record { within = marks-in (i .inside); small = r .small }
 
   -- A SPEC IS WHAT ITS PARTS TELL
-  pub spec-known : {at word : ℕ} {w p : Part} {k : Kind} {o : Bool} → FillTold t at from → WidthTold t (fl .at .0) word w →
-      PrecisionTold t (w .end) p → KindTold t (p .end) k → (o ≡ true → AllTold t (fl .ate) (fl .at .0) w p k) →
+  pub spec-known : {at word : ℕ} {w p : PartTold} {k : TypeTold} {o : Bool} → FillTold t at from → WidthTold t (fl .at .0) word w →
+      PrecisionTold t (w .end) p → TypeKnown t (p .end) k → (o ≡ true → AllTold t (fl .ate) (fl .at .0) w p k) →
       SpecKnown t at
       (record {
         ok = o;
@@ -108,7 +108,7 @@ module _ {t : List ℕ} {from : ℕ} {al : AlignRead} {si : SignRead} {ha fl : C
         word = word;
         width = w;
         precision = p;
-        kind = k;
+        typed = k;
       })
   unfolding formatRead specOf
   spec-known fi wi pr ki all =

@@ -1,65 +1,64 @@
 -- A placeholder whose parts are told is the placeholder that is read. Rests on Specs, Endings and `closing`'s definition of a placeholder.
 use Prim.Native.Nat.{ℕ, _+_, _≤_}
 use mathlib.Core.Path.{_≡_, refl, sym, _∙_, ap}
-use mathlib.Core.Bool.{Bool, true, false}
+use mathlib.Core.Bool.{Bool, true, false, true≢false}
 use mathlib.Core.List.{List}
 use native.Mathlib.Omega.{arith}
 use borrow.Author.Tests.{eqb-true, eqb-false}
 use lib.Dec.{eqb}
 use lib.ListN.{length, getD}
-use Rattle.unicode.specs.Choice.{pick}
-use Rattle.unicode.specs.ChoiceLaws.{pick-elim}
-use Rattle.unicode.specs.Chars.{runEnd}
-use Rattle.unicode.specs.Questions.{isSpace}
+use Rattle.utf8.specs.Choice.{pick}
+use Rattle.utf8.specs.ChoiceLaws.{pick-elim}
+use Rattle.utf8.specs.Chars.{runEnd}
+use Rattle.letters.specs.Questions.{isSpace}
 use Rattle.frame.specs.Places.{place, rangeOf}
 use Rattle.frame.specs.declared.Frame.{Frame}
 use Rattle.frame.specs.declared.TextPlace.{TextPlace}
-use Rattle.scan.specs.Characters.{spacesPast, consumed}
-use Rattle.scan.specs.Ends.{spanAcross}
+use Rattle.scan.specs.Characters.{pastAt, spacesPast, consumed}
 use Rattle.scan.specs.ScanLaws.{run-in}
-use Rattle.scan.specs.declared.Fault.{Fault}
+use Rattle.scan.specs.declared.Flaw.{Flaw}
 use Rattle.placeholder.specs.Arguments.{resolved, joined, argumentRead}
 use Rattle.placeholder.specs.Places.{placed}
 use Rattle.placeholder.specs.Specs.{noSpec, specRead}
-use Rattle.placeholder.specs.declared.Mode.{Mode}
+use Rattle.frame.specs.declared.Mode.{Mode}
 use Rattle.placeholder.specs.declared.between.ArgumentRead.{ArgumentRead}
 use Rattle.placeholder.specs.declared.format.SpecRead.{SpecRead}
 use Rattle.placeholder.specs.declared.position.Found.{Found}
-use Rattle.closing.specs.Recovery.{because, expectedAt, passedTo}
+use Rattle.closing.specs.Recovery.{because, gapAt, passedTo}
 use Rattle.closing.specs.Wholes.{wholeOf, missingRead, placeholderRead}
 use Rattle.closing.specs.declared.whole.Closing.{Closing}
 use Rattle.closing.specs.declared.whole.PlaceholderRead.{PlaceholderRead}
-use Rattle.quick.specs.declared.Hint.{Hint}
-use Rattle.quick.specs.declared.Part.{Part}
+use Rattle.quick.specs.declared.SignHint.{SignHint}
+use Rattle.quick.specs.declared.PartTold.{PartTold}
 use Rattle.quick.specs.declared.SpecTold.{SpecTold}
-use Rattle.quick.specs.declared.Told.{Told}
-use Rattle.quick.specs.Tellings.{foundOf, afterStar, specOf, argumentOf, nextOf, blankFault, blanksOf, hintFault, closingOf, toldRead, Tells}
+use Rattle.quick.specs.declared.PlaceholderTold.{PlaceholderTold}
+use Rattle.quick.specs.Tellings.{foundOf, afterStar, specOf, argumentOf, nextOf, blankFlaw, blanksOf, placedHint, closingOf, toldRead, Tells}
 use Rattle.quick.specs.PartsTold.{Known, hintOf, onwardOf, SpecKnown, NoSpec, LeftTold, PlaceTold, PlaceEnds}
 use Rattle.quick.proofs.Bytes.{byte-in, has, lacks, run-again}
-use Rattle.quick.proofs.Endings.{recover-told, hint-in}
+use Rattle.quick.proofs.Endings.{past-byte, recover-told, hint-in}
 
 -- the spec that is told, with its colon
-abbrev pub specTold : List ℕ → Frame → ℕ → Told → SpecRead
+abbrev pub specTold : List ℕ → Frame → ℕ → PlaceholderTold → SpecRead
 specTold t f n x =
     record {
       spec = pick (x .colon) (specOf t f (x .to + 1) n (x .spec)) (noSpec (place (x .to)) n .spec);
-      at = place (x .spec .kind .end);
+      at = place (x .spec .typed .end);
       next = afterStar n (x .spec .precision);
-      width = blankFault (x .spec .width .blank) (x .spec .from) (x .spec .word);
-      precision = Fault.Clean;
-      kind = blankFault (x .spec .kind .blank) (x .spec .precision .end) (x .spec .kind .end);
+      width = blankFlaw (x .spec .width .blank) (x .spec .from) (x .spec .word);
+      precision = Flaw.Clean;
+      typetext = blankFlaw (x .spec .typed .blank) (x .spec .precision .end) (x .spec .typed .end);
     }
 
 -- the argument that is told, whose place starts at a byte
-abbrev argumentTold : List ℕ → Frame → ℕ → ℕ → Told → ArgumentRead
+abbrev argumentTold : List ℕ → Frame → ℕ → ℕ → PlaceholderTold → ArgumentRead
 argumentTold t f at n x =
     joined (place at) (place (x .to))
-    (placed (foundOf at (x .place)) (place (x .place .end)) (blankFault (x .place .blank) at (x .place .end)) Fault.Clean)
+    (placed (foundOf at (x .place)) (place (x .place .end)) (blankFlaw (x .place .blank) at (x .place .end)) Flaw.Clean)
     (specTold t f n x)
     (resolved (foundOf at (x .place)) (afterStar n (x .spec .precision)))
 
 -- how a placeholder whose place is told ends, at a byte: by its closing brace or without one
-pub record Ending (t : List ℕ) (p : Part) (close : ℕ) (closed : Bool) (hint : Hint) (on : ℕ) : Type 0 where
+pub record Ending (t : List ℕ) (p : PartTold) (close : ℕ) (closed : Bool) (hint : SignHint) (on : ℕ) : Type 0 where
   pub placed : Known p
   pub question : getD t close 0 ≡ 0x3F → ⊥
   pub dot : getD t close 0 ≡ 0x2E → ⊥
@@ -68,18 +67,19 @@ pub record Ending (t : List ℕ) (p : Part) (close : ℕ) (closed : Bool) (hint 
   pub goes : on ≡ onwardOf closed hint close
 
 -- what a placeholder that is told rests on
-pub record Sound (t : List ℕ) (x : Told) : Type 0 where
+pub record Sound (t : List ℕ) (x : PlaceholderTold) : Type 0 where
   pub spec : (f : Frame) (n : ℕ) → specRead t f Mode.Format (place (x .to)) n ≡ specTold t f n x
-  pub wide : x .spec .width .kind ≤ 4
-  pub precise : x .spec .precision .kind ≤ 3
-  pub inside : x .spec .kind .end ≤ length t
-  pub closing : x .close ≡ runEnd isSpace t (x .spec .kind .end)
+  pub colon : x .colon ≡ true → getD t (x .to) 0 ≡ 0x3A
+  pub wide : x .spec .width .tag ≤ 4
+  pub precise : x .spec .precision .tag ≤ 3
+  pub inside : x .spec .typed .end ≤ length t
+  pub closing : x .close ≡ runEnd isSpace t (x .spec .typed .end)
   pub ending : Ending t (x .place) (x .close) (x .closed) (x .hint) (x .on)
 
 -- where a place starts says nothing of the next argument's number
-same-next : (a b n : ℕ) (p : Part) → resolved (foundOf a p) n .next ≡ resolved (foundOf b p) n .next
+same-next : (a b n : ℕ) (p : PartTold) → resolved (foundOf a p) n .next ≡ resolved (foundOf b p) n .next
 unfolding foundOf pick
-same-next a b n p = go (eqb (p .kind) 0) (eqb (p .kind) 1)
+same-next a b n p = go (eqb (p .tag) 0) (eqb (p .tag) 1)
   where
     go : (x y : Bool) →
         resolved (pick x Found.Nothing (pick y (Found.Number (p .value)) (Found.Word (rangeOf (place a) (place (p .end)))))) n .next ≡
@@ -95,42 +95,52 @@ readEnd t f brace a close =
     (wholeOf t f Mode.Format brace a (Closing.Closed (place close)) (consumed t (place close) 0x7D .at) (a .next))
     (missingRead t f Mode.Format brace a (place close))
 
--- and what is told of it
-abbrev toldEnd : List ℕ → Frame → TextPlace → ArgumentRead → ℕ → Bool → Hint → ℕ → PlaceholderRead
-toldEnd t f brace a close closed hint on =
-    let opening = spanAcross t f brace brace in
+-- and what is told of it, with the place of a fill
+abbrev toldEnd : List ℕ → Frame → TextPlace → ArgumentRead → TextPlace → ℕ → Bool → SignHint → ℕ → PlaceholderRead
+toldEnd t f brace a fill close closed hint on =
     wholeOf t f Mode.Format brace a
     (pick closed (Closing.Closed (place close))
     (Closing.Missing
-    (expectedAt t (place close) (because (a .spec .fill) opening))
-    (passedTo (place on) (a .next) (hintFault hint (place close) opening))))
+    (gapAt t (place close) (because (a .spec .fill) fill brace))
+    (passedTo (place on) (a .next) (placedHint hint (place close)))))
     (place on)
     (a .next)
 
 -- they are the same
-end-told : {t : List ℕ} {p : Part} {close : ℕ} {closed : Bool} {hint : Hint} {on : ℕ} → Ending t p close closed hint on →
-    (f : Frame) (brace : TextPlace) (a : ArgumentRead) → readEnd t f brace a close ≡ toldEnd t f brace a close closed hint on
+end-told : {t : List ℕ} {p : PartTold} {close : ℕ} {closed : Bool} {hint : SignHint} {on : ℕ} → Ending t p close closed hint on →
+    (f : Frame) (brace : TextPlace) (a : ArgumentRead) → readEnd t f brace a close ≡ toldEnd t f brace a (pastAt t (a .to)) close closed hint on
 unfolding missingRead onwardOf pick
 end-told {t} {p} {close} {closed} {hint} {on} e f brace a = go (eqb (getD t close 0) 0x7D) refl
   where
-    go : (x : Bool) → eqb (getD t close 0) 0x7D ≡ x → readEnd t f brace a close ≡ toldEnd t f brace a close closed hint on
+    go : (x : Bool) → eqb (getD t close 0) 0x7D ≡ x → readEnd t f brace a close ≡ toldEnd t f brace a (pastAt t (a .to)) close closed hint on
     go true y =
         rw (has t close 0x7D (omega arith) (omega arith) (eqb-true (getD t close 0) 0x7D y), e .goes, e .brace, y)
     go false y =
         rw (
           lacks t close 0x7D (omega arith) (omega arith) (eqb-false (getD t close 0) 0x7D y),
-          recover-told t close (spanAcross t f brace brace) f Mode.Format _ _ _ (e .question) (e .dot),
+          recover-told t close f Mode.Format _ _ _ (e .question) (e .dot),
           e .goes,
           e .brace,
           y,
           e .said,
         )
 
-module _ {t : List ℕ} {at : ℕ} {x : Told} (e : PlaceEnds t at (x .place) (x .to)) (s : Sound t x) where
+module _ {t : List ℕ} {at : ℕ} {x : PlaceholderTold} (e : PlaceEnds t at (x .place) (x .to)) (s : Sound t x) where
   -- the argument that is told is the one that is read
   argument-told : (f : Frame) (n : ℕ) → argumentRead t f Mode.Format (place at) n ≡ argumentTold t f at n x
   unfolding argumentRead spacesPast
   argument-told f n = rw (e .placed .read (s .ending .placed), ← e .ends, s .spec f n)
+
+  -- a fill stands a byte after the colon, and without a colon there is none
+  fill-told : (f : Frame) (n : ℕ) (brace : TextPlace) →
+      because (specTold t f n x .spec .fill) (pastAt t (place (x .to))) brace ≡ because (specTold t f n x .spec .fill) (place (x .to + 1)) brace
+  unfolding pick
+  fill-told f n brace = go (x .colon) refl
+    where
+      go : (c : Bool) → x .colon ≡ c →
+          because (specTold t f n x .spec .fill) (pastAt t (place (x .to))) brace ≡ because (specTold t f n x .spec .fill) (place (x .to + 1)) brace
+      go true y = let b = s .colon y in rw (past-byte t (x .to) (byte-in t (x .to) (omega arith)) (omega arith))
+      go false y = rw y
 
   -- WHAT IS TOLD IS WHAT IS READ
   told-read : (f : Frame) (brace n : ℕ) → at ≡ brace + 1 →
@@ -141,16 +151,17 @@ module _ {t : List ℕ} {at : ℕ} {x : Told} (e : PlaceEnds t at (x .place) (x 
         argument-told f n,
         ← s .closing,
         end-told (s .ending) f (place brace) (argumentTold t f at n x),
+        fill-told f n (place brace),
         same-next 0 at (afterStar n (x .spec .precision)) (x .place),
         q,
       )
 
 -- it ends within the text
-close-in : {t : List ℕ} {x : Told} → Sound t x → x .close ≤ length t
-close-in {t} {x} s = rw (s .closing) (run-in isSpace t (x .spec .kind .end) (s .inside))
+close-in : {t : List ℕ} {x : PlaceholderTold} → Sound t x → x .close ≤ length t
+close-in {t} {x} s = rw (s .closing) (run-in isSpace t (x .spec .typed .end) (s .inside))
 
 -- and reading goes on within it
-on-in : {t : List ℕ} {p : Part} {close : ℕ} {closed : Bool} {hint : Hint} {on : ℕ} → Ending t p close closed hint on → close ≤ length t →
+on-in : {t : List ℕ} {p : PartTold} {close : ℕ} {closed : Bool} {hint : SignHint} {on : ℕ} → Ending t p close closed hint on → close ≤ length t →
     on ≤ length t
 unfolding onwardOf
 on-in {t} {close = close} e h =
@@ -159,11 +170,11 @@ on-in {t} {close = close} e h =
     (λ y. let b = eqb-true (getD t close 0) 0x7D y in let l = byte-in t close (omega arith) in omega arith) (λ _. hint-in t close h))
 
 -- a place, and the whitespace after it
-pub place-ends : {t : List ℕ} {at to : ℕ} {p : Part} → PlaceTold t at p → to ≡ runEnd isSpace t (p .end) → PlaceEnds t at p to
+pub place-ends : {t : List ℕ} {at to : ℕ} {p : PartTold} → PlaceTold t at p → to ≡ runEnd isSpace t (p .end) → PlaceEnds t at p to
 place-ends p e = record { placed = p; ends = e }
 
 -- so it tells, where it says that it does
-pub tells : {t : List ℕ} {at : ℕ} {x : Told} → PlaceEnds t at (x .place) (x .to) → (x .ok ≡ true → Sound t x) → Tells t at x
+pub tells : {t : List ℕ} {at : ℕ} {x : PlaceholderTold} → PlaceEnds t at (x .place) (x .to) → (x .ok ≡ true → Sound t x) → Tells t at x
 tells {t} {at} {x} e s =
     record {
       read = λ y. told-read e (s y);
@@ -176,7 +187,7 @@ tells {t} {at} {x} e s =
     }
 
 -- the byte at the end tells how it ends
-pub ending : {t : List ℕ} {p : Part} {b close on : ℕ} {o : Bool} {hint : Hint} → b ≡ getD t close 0 → LeftTold b p o → hint ≡ hintOf t close →
+pub ending : {t : List ℕ} {p : PartTold} {b close on : ℕ} {o : Bool} {hint : SignHint} → b ≡ getD t close 0 → LeftTold b p o → hint ≡ hintOf t close →
     on ≡ onwardOf (eqb b 0x7D) hint close → Ending t p close (eqb b 0x7D) hint on
 ending q l h g =
     record {
@@ -188,15 +199,16 @@ ending q l h g =
       goes = g;
     }
 
-module _ {t : List ℕ} {p : Part} {to on : ℕ} {o closed : Bool} {hint : Hint} {s : SpecTold} where
+module _ {t : List ℕ} {p : PartTold} {to on : ℕ} {o closed : Bool} {hint : SignHint} {s : SpecTold} where
   -- with a colon and a spec
-  pub sound-spec : {close : ℕ} → getD t to 0 ≡ 0x3A → SpecKnown t (to + 1) s → s .ok ≡ true → close ≡ runEnd isSpace t (s .kind .end) →
+  pub sound-spec : {close : ℕ} → getD t to 0 ≡ 0x3A → SpecKnown t (to + 1) s → s .ok ≡ true → close ≡ runEnd isSpace t (s .typed .end) →
       Ending t p close closed hint on →
       Sound t (record { ok = o; place = p; to = to; colon = true; spec = s; close = close; closed = closed; hint = hint; on = on })
   unfolding specRead pick
   sound-spec b k y r e =
       record {
         spec = λ f n. rw (has t to 0x3A (omega arith) (omega arith) b, k .read y f n);
+        colon = λ _. b;
         wide = k .wide y;
         precise = k .precise y;
         inside = k .inside;
@@ -207,10 +219,11 @@ module _ {t : List ℕ} {p : Part} {to on : ℕ} {o closed : Bool} {hint : Hint}
   -- with no colon
   pub sound-bare : {at : ℕ} → (getD t to 0 ≡ 0x3A → ⊥) → NoSpec to s → PlaceEnds t at p to → Ending t p to closed hint on →
       Sound t (record { ok = o; place = p; to = to; colon = false; spec = s; close = to; closed = closed; hint = hint; on = on })
-  unfolding specRead afterStar blankFault pick
+  unfolding specRead afterStar blankFlaw pick
   sound-bare b k r e =
       record {
         spec = λ f n. rw (lacks t to 0x3A (omega arith) (omega arith) b, k .wide, k .precise, k .typed, k .ends);
+        colon = λ z. absurd (true≢false (sym z));
         wide = rw (k .wide) (omega arith);
         precise = rw (k .precise) (omega arith);
         inside = rw (k .ends, r .ends) (run-in isSpace t (p .end) (r .placed .inside));

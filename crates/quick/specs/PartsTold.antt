@@ -5,14 +5,14 @@ use mathlib.Core.Bool.{Bool, true, false}
 use mathlib.Core.List.{List}
 use lib.Dec.{eqb, leb}
 use lib.ListN.{length, getD}
-use Rattle.unicode.specs.Choice.{pick, both}
-use Rattle.unicode.specs.Chars.{runEnd}
-use Rattle.unicode.specs.Questions.{isSpace}
+use Rattle.utf8.specs.Choice.{pick, both}
+use Rattle.utf8.specs.Chars.{runEnd}
+use Rattle.letters.specs.Questions.{isSpace}
 use Rattle.frame.specs.Places.{place, rangeOf}
 use Rattle.frame.specs.declared.Frame.{Frame}
 use Rattle.scan.specs.Words.{numberRead}
 use Rattle.scan.specs.Counts.{countRead}
-use Rattle.scan.specs.declared.Fault.{Fault}
+use Rattle.scan.specs.declared.Flaw.{Flaw}
 use Rattle.scan.specs.declared.Number.{Number}
 use Rattle.placeholder.specs.Places.{placed, placeRead}
 use Rattle.placeholder.specs.Parts.{isImplied, fillRead, precisionRead}
@@ -20,11 +20,11 @@ use Rattle.placeholder.specs.Types.{typeRead}
 use Rattle.placeholder.specs.Format.{formatRead}
 use Rattle.placeholder.specs.declared.Hex.{Hex}
 use Rattle.placeholder.specs.declared.format.SpecRead.{SpecRead}
-use Rattle.quick.specs.declared.Part.{Part}
-use Rattle.quick.specs.declared.Kind.{Kind}
-use Rattle.quick.specs.declared.Hint.{Hint}
+use Rattle.quick.specs.declared.PartTold.{PartTold}
+use Rattle.quick.specs.declared.TypeTold.{TypeTold}
+use Rattle.quick.specs.declared.SignHint.{SignHint}
 use Rattle.quick.specs.declared.SpecTold.{SpecTold}
-use Rattle.quick.specs.Tellings.{foundOf, countOf, widthOf, countSpan, fillOf, kindSpan, afterStar, specOf, blankFault}
+use Rattle.quick.specs.Tellings.{foundOf, countOf, widthOf, countSpan, fillOf, typeSpan, afterStar, specOf, blankFlaw}
 
 -- a place within a text of at most refusal 3's limit
 pub record Room (t : List ℕ) (at : ℕ) : Type 0 where
@@ -32,11 +32,11 @@ pub record Room (t : List ℕ) (at : ℕ) : Type 0 where
   pub small : length t ≤ 65535
 
 -- a part that is told
-abbrev pub Known : Part → Type 0
-Known p = p .kind ≡ 9 → ⊥
+abbrev pub Known : PartTold → Type 0
+Known p = p .tag ≡ 9 → ⊥
 
-abbrev pub part : ℕ → ℕ → ℕ → Bool → Part
-part kind value end blank = record { kind = kind; value = value; end = end; blank = blank }
+abbrev pub part : ℕ → ℕ → ℕ → Bool → PartTold
+part tag value end blank = record { tag = tag; value = value; end = end; blank = blank }
 
 -- a byte that is an align
 unfoldable pub alignByte : ℕ → Bool
@@ -51,42 +51,42 @@ unfoldable pub blankWord : ℕ → ℕ → ℕ → Bool
 blankWord b at end = both (eqb b 0x5F) (eqb end (at + 1))
 
 -- what is said of the sign at a byte, if two characters remain
-unfoldable pub hintOf : List ℕ → ℕ → Hint
+unfoldable pub hintOf : List ℕ → ℕ → SignHint
 hintOf t at =
     let b = getD t at 0 in
-    pick (leb (length t) (at + 1)) Hint.Silent
-    (pick (alignByte b) Hint.Misplaced
-    (pick (eqb b 0x2C) Hint.Comma
-    (pick (eqb b 0x2B) Hint.Plus
-    (pick (both (eqb b 0x3D) (eqb (getD t (at + 1) 0) 0x7D)) Hint.Equals Hint.Silent))))
+    pick (leb (length t) (at + 1)) SignHint.Silent
+    (pick (alignByte b) SignHint.Misplaced
+    (pick (eqb b 0x2C) SignHint.Comma
+    (pick (eqb b 0x2B) SignHint.Plus
+    (pick (both (eqb b 0x3D) (eqb (getD t (at + 1) 0) 0x7D)) SignHint.Equals SignHint.Silent))))
 
 -- where reading goes on after a closing brace, or after a sign
-abbrev pub pastHint : Hint → ℕ → ℕ
-pastHint Hint.Silent at = at
-pastHint Hint.Misplaced at = at + 1
-pastHint Hint.Comma at = at + 1
-pastHint Hint.Plus at = at + 1
-pastHint Hint.Equals at = at + 1
+abbrev pub pastHint : SignHint → ℕ → ℕ
+pastHint SignHint.Silent at = at
+pastHint SignHint.Misplaced at = at + 1
+pastHint SignHint.Comma at = at + 1
+pastHint SignHint.Plus at = at + 1
+pastHint SignHint.Equals at = at + 1
 
-unfoldable pub onwardOf : Bool → Hint → ℕ → ℕ
+unfoldable pub onwardOf : Bool → SignHint → ℕ → ℕ
 onwardOf closed hint at = pick closed (at + 1) (pastHint hint at)
 
 -- the number that starts at a byte
-pub record NumberTold (t : List ℕ) (at : ℕ) (p : Part) : Type 0 where
-  pub one : Known p → p .kind ≡ 1
+pub record NumberTold (t : List ℕ) (at : ℕ) (p : PartTold) : Type 0 where
+  pub one : Known p → p .tag ≡ 1
   pub read : Known p →
       numberRead t (place at) ≡ record {
         number = Number.Given (p .value);
         digits = rangeOf (place at) (place (p .end));
-        fault = Fault.Clean;
+        flaw = Flaw.Clean;
       }
   pub whole : p .blank ≡ false
   pub inside : p .end ≤ length t
 
 -- the place of an argument
-pub record PlaceTold (t : List ℕ) (at : ℕ) (p : Part) : Type 0 where
-  pub most : Known p → p .kind ≤ 2
-  pub read : Known p → placeRead t (place at) ≡ placed (foundOf at p) (place (p .end)) (blankFault (p .blank) at (p .end)) Fault.Clean
+pub record PlaceTold (t : List ℕ) (at : ℕ) (p : PartTold) : Type 0 where
+  pub most : Known p → p .tag ≤ 2
+  pub read : Known p → placeRead t (place at) ≡ placed (foundOf at p) (place (p .end)) (blankFlaw (p .blank) at (p .end)) Flaw.Clean
   pub inside : p .end ≤ length t
 
 -- a fill, which ends at a byte
@@ -95,88 +95,88 @@ pub record FillTold (t : List ℕ) (at past : ℕ) : Type 0 where
   pub inside : past ≤ length t
 
 -- a count that is there, without a name
-pub record CountGiven (t : List ℕ) (at : ℕ) (p : Part) : Type 0 where
-  pub some : Known p → 1 ≤ p .kind
-  pub most : Known p → p .kind ≤ 2
+pub record CountGiven (t : List ℕ) (at : ℕ) (p : PartTold) : Type 0 where
+  pub some : Known p → 1 ≤ p .tag
+  pub most : Known p → p .tag ≤ 2
   pub read : Known p → (f : Frame) (n : ℕ) →
-      countRead t f (place at) ≡ record { count = countOf n p; at = place (p .end); fault = Fault.Clean }
+      countRead t f (place at) ≡ record { count = countOf n p; at = place (p .end); flaw = Flaw.Clean }
   pub whole : p .blank ≡ false
   pub inside : p .end ≤ length t
 
 -- a width, where a word ends at a byte
-pub record WidthTold (t : List ℕ) (at word : ℕ) (p : Part) : Type 0 where
-  pub most : Known p → p .kind ≤ 4
+pub record WidthTold (t : List ℕ) (at word : ℕ) (p : PartTold) : Type 0 where
+  pub most : Known p → p .tag ≤ 4
   pub read : Known p → (f : Frame) (n : ℕ) →
-      countRead t f (place at) ≡ record { count = widthOf t f n at word p; at = place (p .end); fault = blankFault (p .blank) at word }
-  pub spanned : Known p → (f : Frame) (n : ℕ) → isImplied (widthOf t f n at word p) ≡ eqb (p .kind) 0
+      countRead t f (place at) ≡ record { count = widthOf t f n at word p; at = place (p .end); flaw = blankFlaw (p .blank) at word }
+  pub spanned : Known p → (f : Frame) (n : ℕ) → isImplied (widthOf t f n at word p) ≡ eqb (p .tag) 0
   pub inside : p .end ≤ length t
 
 -- a precision with its dot, or none
-pub record PrecisionTold (t : List ℕ) (at : ℕ) (p : Part) : Type 0 where
-  pub most : Known p → p .kind ≤ 3
+pub record PrecisionTold (t : List ℕ) (at : ℕ) (p : PartTold) : Type 0 where
+  pub most : Known p → p .tag ≤ 3
   pub read : Known p → (f : Frame) (n : ℕ) →
       precisionRead t f (place at) n ≡ record {
         precision = countOf n p;
         span = countSpan t f at p;
         at = place (p .end);
         next = afterStar n p;
-        fault = Fault.Clean;
+        flaw = Flaw.Clean;
       }
   pub inside : p .end ≤ length t
 
 -- a type
-pub record KindTold (t : List ℕ) (at : ℕ) (k : Kind) : Type 0 where
+pub record TypeKnown (t : List ℕ) (at : ℕ) (k : TypeTold) : Type 0 where
   pub read : k .ok ≡ true → (f : Frame) →
       typeRead t f (place at) ≡ record {
         hex = Hex.Absent;
-        kind = rangeOf (place at) (place (k .end));
-        span = kindSpan t f at k;
+        typetext = rangeOf (place at) (place (k .end));
+        span = typeSpan t f at k;
         at = place (k .end);
-        fault = blankFault (k .blank) at (k .end);
+        flaw = blankFlaw (k .blank) at (k .end);
       }
   pub inside : k .end ≤ length t
 
 -- what a spec's parts say where each is told; a `0` before a `$` is no flag
-pub record AllTold (t : List ℕ) (zero : Bool) (from : ℕ) (width precision : Part) (kind : Kind) : Type 0 where
+pub record AllTold (t : List ℕ) (zero : Bool) (from : ℕ) (width precision : PartTold) (k : TypeTold) : Type 0 where
   pub flag : zero ≡ true → getD t from 0 ≡ 0x24 → ⊥
   pub wide : Known width
   pub precise : Known precision
-  pub typed : kind .ok ≡ true
+  pub typed : k .ok ≡ true
 
 -- a spec that is told, as `placeholder` reads it
 abbrev pub specFound : List ℕ → Frame → ℕ → ℕ → SpecTold → SpecRead
 specFound t f at n s =
     record {
       spec = specOf t f at n s;
-      at = place (s .kind .end);
+      at = place (s .typed .end);
       next = afterStar n (s .precision);
-      width = blankFault (s .width .blank) (s .from) (s .word);
-      precision = Fault.Clean;
-      kind = blankFault (s .kind .blank) (s .precision .end) (s .kind .end);
+      width = blankFlaw (s .width .blank) (s .from) (s .word);
+      precision = Flaw.Clean;
+      typetext = blankFlaw (s .typed .blank) (s .precision .end) (s .typed .end);
     }
 
 -- the spec after a colon
 pub record SpecKnown (t : List ℕ) (at : ℕ) (s : SpecTold) : Type 0 where
   pub read : s .ok ≡ true → (f : Frame) (n : ℕ) → formatRead t f (place at) n ≡ specFound t f at n s
-  pub wide : s .ok ≡ true → s .width .kind ≤ 4
-  pub precise : s .ok ≡ true → s .precision .kind ≤ 3
-  pub inside : s .kind .end ≤ length t
+  pub wide : s .ok ≡ true → s .width .tag ≤ 4
+  pub precise : s .ok ≡ true → s .precision .tag ≤ 3
+  pub inside : s .typed .end ≤ length t
 
 -- no spec, where reading stood
 pub record NoSpec (at : ℕ) (s : SpecTold) : Type 0 where
   pub wide : s .width ≡ part 0 0 at false
   pub precise : s .precision ≡ part 0 0 at false
-  pub typed : s .kind .blank ≡ false
-  pub ends : s .kind .end ≡ at
+  pub typed : s .typed .blank ≡ false
+  pub ends : s .typed .end ≡ at
 
 -- a placeholder whose place and spec are told, and at whose end a byte stands that begins nothing more
-pub record LeftTold (b : ℕ) (p : Part) (spec : Bool) : Type 0 where
+pub record LeftTold (b : ℕ) (p : PartTold) (spec : Bool) : Type 0 where
   pub specified : spec ≡ true
   pub placed : Known p
   pub question : b ≡ 0x3F → ⊥
   pub dot : b ≡ 0x2E → ⊥
 
 -- a placeholder whose place ends, with the whitespace after it, at a byte
-pub record PlaceEnds (t : List ℕ) (at : ℕ) (p : Part) (to : ℕ) : Type 0 where
+pub record PlaceEnds (t : List ℕ) (at : ℕ) (p : PartTold) (to : ℕ) : Type 0 where
   pub placed : PlaceTold t at p
   pub ends : to ≡ runEnd isSpace t (p .end)

@@ -1,67 +1,67 @@
--- What the quick lane tells, in the records that `closing` reads. A kind of 9, and what is not `ok`, means nothing: it is not told.
+-- What the quick lane tells, in the records that `closing` reads. A tag of 9, and what is not `ok`, means nothing: it is not told.
 use Prim.Native.Nat.{ℕ, _+_, _≤_}
 use mathlib.Core.Path.{_≡_}
 use mathlib.Core.Bool.{Bool, true}
 use mathlib.Core.List.{List}
 use lib.Dec.{eqb}
 use lib.ListN.{length}
-use Rattle.unicode.specs.Choice.{pick}
-use Rattle.unicode.specs.Utf8.{peekAt}
-use Rattle.unicode.specs.declared.Seen.{Seen}
-use Rattle.unicode.specs.declared.Seen.the-variants.{Char, End}
+use Rattle.utf8.specs.Choice.{pick}
+use Rattle.utf8.specs.Utf8.{peekAt}
+use Rattle.utf8.specs.declared.Seen.{Seen}
+use Rattle.utf8.specs.declared.Seen.the-variants.{Char, End}
 use Rattle.frame.specs.Places.{place, rangeOf}
 use Rattle.frame.specs.Spans.{spanBetween}
 use Rattle.frame.specs.declared.Frame.{Frame}
-use Rattle.frame.specs.declared.Span.{Span}
 use Rattle.frame.specs.declared.TextPlace.{TextPlace}
 use Rattle.scan.specs.Ends.{spanAcross}
 use Rattle.scan.specs.declared.Count.{Count}
-use Rattle.scan.specs.declared.Fault.{Fault}
+use Rattle.scan.specs.declared.Flaw.{Flaw}
 use Rattle.placeholder.specs.Arguments.{resolved}
-use Rattle.closing.specs.Recovery.{because, expectedAt, passedTo, textTaken}
+use Rattle.closing.specs.Recovery.{because, gapAt, passedTo, textTaken}
 use Rattle.placeholder.specs.Specs.{noSpec}
 use Rattle.closing.specs.Wholes.{placeholderRead}
 use Rattle.placeholder.specs.declared.Argument.{Argument}
-use Rattle.placeholder.specs.declared.ArgumentFaults.{ArgumentFaults}
+use Rattle.placeholder.specs.declared.ArgumentFlaws.{ArgumentFlaws}
 use Rattle.placeholder.specs.declared.Fill.{Fill}
 use Rattle.placeholder.specs.declared.Hex.{Hex}
 use Rattle.placeholder.specs.declared.MaybeSpan.{MaybeSpan}
-use Rattle.placeholder.specs.declared.Mode.{Mode}
+use Rattle.frame.specs.declared.Mode.{Mode}
 use Rattle.placeholder.specs.declared.Spec.{Spec}
 use Rattle.placeholder.specs.declared.position.Found.{Found}
+use Rattle.closing.specs.declared.recover.Hint.{Hint}
 use Rattle.closing.specs.declared.whole.Closing.{Closing}
 use Rattle.closing.specs.declared.whole.PlaceholderRead.{PlaceholderRead}
-use Rattle.quick.specs.declared.Part.{Part}
-use Rattle.quick.specs.declared.Kind.{Kind}
-use Rattle.quick.specs.declared.Hint.{Hint}
+use Rattle.quick.specs.declared.PartTold.{PartTold}
+use Rattle.quick.specs.declared.TypeTold.{TypeTold}
+use Rattle.quick.specs.declared.SignHint.{SignHint}
 use Rattle.quick.specs.declared.SpecTold.{SpecTold}
-use Rattle.quick.specs.declared.Told.{Told}
+use Rattle.quick.specs.declared.PlaceholderTold.{PlaceholderTold}
 
 -- a place that starts at a byte
-unfoldable pub foundOf : ℕ → Part → Found
+unfoldable pub foundOf : ℕ → PartTold → Found
 foundOf at p =
-    pick (eqb (p .kind) 0) Found.Nothing
-    (pick (eqb (p .kind) 1) (Found.Number (p .value))
+    pick (eqb (p .tag) 0) Found.Nothing
+    (pick (eqb (p .tag) 1) (Found.Number (p .value))
     (Found.Word (rangeOf (place at) (place (p .end)))))
 
 -- a width or a precision, with the next argument's number
-unfoldable pub countOf : ℕ → Part → Count
+unfoldable pub countOf : ℕ → PartTold → Count
 countOf n p =
-    pick (eqb (p .kind) 0) Count.Implied
-    (pick (eqb (p .kind) 1) (Count.Fixed (p .value))
-    (pick (eqb (p .kind) 2) (Count.ByArgument (p .value))
+    pick (eqb (p .tag) 0) Count.Implied
+    (pick (eqb (p .tag) 1) (Count.Fixed (p .value))
+    (pick (eqb (p .tag) 2) (Count.ByArgument (p .value))
     (Count.ByStar n)))
 
 -- a width that starts at a byte, where a word ends at another: with `$` the word is a name
-unfoldable pub widthOf : List ℕ → Frame → ℕ → ℕ → ℕ → Part → Count
+unfoldable pub widthOf : List ℕ → Frame → ℕ → ℕ → ℕ → PartTold → Count
 widthOf t f n from word p =
-    pick (eqb (p .kind) 4)
+    pick (eqb (p .tag) 4)
     (Count.ByName (rangeOf (place from) (place word)) (spanBetween t f (place from) (place word)))
     (countOf n p)
 
 -- the span of a count that starts at a byte
-unfoldable pub countSpan : List ℕ → Frame → ℕ → Part → MaybeSpan
-countSpan t f from p = pick (eqb (p .kind) 0) MaybeSpan.Absent (MaybeSpan.Present (spanBetween t f (place from) (place (p .end))))
+unfoldable pub countSpan : List ℕ → Frame → ℕ → PartTold → MaybeSpan
+countSpan t f from p = pick (eqb (p .tag) 0) MaybeSpan.Absent (MaybeSpan.Present (spanBetween t f (place from) (place (p .end))))
 
 -- the code of a character; 0 at the end
 abbrev pub codeSeen : Seen → ℕ
@@ -74,12 +74,12 @@ fillOf t f at past =
     pick (eqb at past) Fill.Absent (Fill.Present (codeSeen (peekAt t at)) (spanAcross t f (place at) (place at)))
 
 -- a type's span: a word has one
-unfoldable pub kindSpan : List ℕ → Frame → ℕ → Kind → MaybeSpan
-kindSpan t f start k = pick (k .word) (MaybeSpan.Present (spanBetween t f (place start) (place (k .end)))) MaybeSpan.Absent
+unfoldable pub typeSpan : List ℕ → Frame → ℕ → TypeTold → MaybeSpan
+typeSpan t f start k = pick (k .word) (MaybeSpan.Present (spanBetween t f (place start) (place (k .end)))) MaybeSpan.Absent
 
 -- the next argument's number after a star, and after a place that is not written
-unfoldable pub afterStar : ℕ → Part → ℕ
-afterStar n p = pick (eqb (p .kind) 3) (n + 1) n
+unfoldable pub afterStar : ℕ → PartTold → ℕ
+afterStar n p = pick (eqb (p .tag) 3) (n + 1) n
 
 -- the spec that starts at a byte, after its colon
 unfoldable pub specOf : List ℕ → Frame → ℕ → ℕ → SpecTold → Spec
@@ -95,12 +95,12 @@ specOf t f at n s =
       widthspan = countSpan t f (s .from) (s .width);
       precision = countOf n (s .precision);
       precisionspan = countSpan t f (s .width .end) (s .precision);
-      kind = rangeOf (place (s .precision .end)) (place (s .kind .end));
-      kindspan = kindSpan t f (s .precision .end) (s .kind);
+      typetext = rangeOf (place (s .precision .end)) (place (s .typed .end));
+      typespan = typeSpan t f (s .precision .end) (s .typed);
     }
 
 -- the argument whose opening brace stands at a byte
-unfoldable pub argumentOf : List ℕ → Frame → ℕ → ℕ → Told → Argument
+unfoldable pub argumentOf : List ℕ → Frame → ℕ → ℕ → PlaceholderTold → Argument
 argumentOf t f brace n x =
     record {
       place = resolved (foundOf (brace + 1) (x .place)) (afterStar n (x .spec .precision)) .place;
@@ -110,60 +110,59 @@ argumentOf t f brace n x =
     }
 
 -- the next argument's number after a placeholder: a star's and a place's that is not written are taken
-unfoldable pub nextOf : ℕ → Told → ℕ
+unfoldable pub nextOf : ℕ → PlaceholderTold → ℕ
 nextOf n x = resolved (foundOf 0 (x .place)) (afterStar n (x .spec .precision)) .next
 
--- the word `_`, where it stands between two bytes, is a fault
-unfoldable pub blankFault : Bool → ℕ → ℕ → Fault
-blankFault blank from to = pick blank (Fault.Underscore (rangeOf (place from) (place to))) Fault.Clean
+-- the word `_`, where it stands between two bytes, is a flaw
+unfoldable pub blankFlaw : Bool → ℕ → ℕ → Flaw
+blankFlaw blank from to = pick blank (Flaw.Underscore (rangeOf (place from) (place to))) Flaw.Clean
 
 -- what is wrong in the parts of the argument whose place starts at a byte
-unfoldable pub blanksOf : ℕ → Told → ArgumentFaults
+unfoldable pub blanksOf : ℕ → PlaceholderTold → ArgumentFlaws
 blanksOf at x =
     record {
-      place = blankFault (x .place .blank) at (x .place .end);
-      raw = Fault.Clean;
-      width = blankFault (x .spec .width .blank) (x .spec .from) (x .spec .word);
-      precision = Fault.Clean;
-      kind = blankFault (x .spec .kind .blank) (x .spec .precision .end) (x .spec .kind .end);
+      place = blankFlaw (x .place .blank) at (x .place .end);
+      raw = Flaw.Clean;
+      width = blankFlaw (x .spec .width .blank) (x .spec .from) (x .spec .word);
+      precision = Flaw.Clean;
+      typetext = blankFlaw (x .spec .typed .blank) (x .spec .precision .end) (x .spec .typed .end);
     }
 
--- what is said of the sign at a place; the opening brace's span
-abbrev pub hintFault : Hint → TextPlace → Span → Fault
-hintFault Hint.Silent at brace = Fault.Clean
-hintFault Hint.Misplaced at brace = Fault.Misplaced at
-hintFault Hint.Comma at brace = Fault.Comma at brace
-hintFault Hint.Plus at brace = Fault.PlusFirst at
-hintFault Hint.Equals at brace = Fault.Equals at brace
+-- what is said of the sign at a place
+abbrev pub placedHint : SignHint → TextPlace → Hint
+placedHint SignHint.Silent at = Hint.Silent
+placedHint SignHint.Misplaced at = Hint.Misplaced at
+placedHint SignHint.Comma at = Hint.Comma at
+placedHint SignHint.Plus at = Hint.PlusFirst at
+placedHint SignHint.Equals at = Hint.Equals at
 
 -- how it ends: at its closing brace, or without one and with no word and no field read
-unfoldable pub closingOf : List ℕ → Frame → ℕ → ℕ → Told → Closing
+unfoldable pub closingOf : List ℕ → Frame → ℕ → ℕ → PlaceholderTold → Closing
 closingOf t f brace n x =
-    let opening = spanAcross t f (place brace) (place brace) in
-    let why = because (argumentOf t f brace n x .spec .fill) opening in
+    let why = because (argumentOf t f brace n x .spec .fill) (place (x .to + 1)) (place brace) in
     pick (x .closed) (Closing.Closed (place (x .close)))
     (Closing.Missing
-    (expectedAt t (place (x .close)) why)
-    (passedTo (place (x .on)) (nextOf n x) (hintFault (x .hint) (place (x .close)) opening)))
+    (gapAt t (place (x .close)) why)
+    (passedTo (place (x .on)) (nextOf n x) (placedHint (x .hint) (place (x .close)))))
 
 -- the placeholder
-unfoldable pub toldRead : List ℕ → Frame → ℕ → ℕ → Told → PlaceholderRead
+unfoldable pub toldRead : List ℕ → Frame → ℕ → ℕ → PlaceholderTold → PlaceholderRead
 toldRead t f brace n x =
     record {
       argument = argumentOf t f brace n x;
-      text = textTaken Mode.Format (argumentOf t f brace n x .spec .kind);
-      faults = blanksOf (brace + 1) x;
+      text = textTaken Mode.Format (argumentOf t f brace n x .spec .typetext);
+      flaws = blanksOf (brace + 1) x;
       closing = closingOf t f brace n x;
       at = place (x .on);
       next = nextOf n x;
     }
 
 -- WHAT IS TOLD IS WHAT IS READ, for the placeholder whose place starts at a byte, in any frame and with any number of the next argument
-pub record Tells (t : List ℕ) (at : ℕ) (x : Told) : Type 0 where
+pub record Tells (t : List ℕ) (at : ℕ) (x : PlaceholderTold) : Type 0 where
   pub read : x .ok ≡ true → (f : Frame) (brace n : ℕ) → at ≡ brace + 1 → placeholderRead t f Mode.Format (place brace) (place at) n ≡ toldRead t f brace n x
-  pub placed : x .ok ≡ true → x .place .kind ≤ 2
-  pub wide : x .ok ≡ true → x .spec .width .kind ≤ 4
-  pub precise : x .ok ≡ true → x .spec .precision .kind ≤ 3
+  pub placed : x .ok ≡ true → x .place .tag ≤ 2
+  pub wide : x .ok ≡ true → x .spec .width .tag ≤ 4
+  pub precise : x .ok ≡ true → x .spec .precision .tag ≤ 3
   pub reached : x .ok ≡ true → x .to ≤ length t
   pub closed : x .ok ≡ true → x .close ≤ length t
   pub on : x .ok ≡ true → x .on ≤ length t

@@ -3,7 +3,7 @@
 use frame::TextPlace;
 use placeholder::Align;
 use placeholder::Sign;
-use unicode::Seen;
+use utf8::Seen;
 ghost use mathlib.Core.Path.{_≡_};
 ghost use mathlib.Core.Bool.{true, false};
 ghost use Prim.Native.Nat.{ℕ, _+_, _≤_};
@@ -11,19 +11,19 @@ ghost use lib.ListN.{getD};
 ghost use Rattle.frame.specs.Places.{place};
 ghost use Rattle.scan.specs.Words.{isDigit, wordEnd};
 ghost use Rattle.quick.specs.Tellings.{Tells};
-ghost use Rattle.quick.specs.PartsTold.{Room, part, alignByte, endsByte, blankWord, hintOf, onwardOf, NumberTold, PlaceTold, FillTold, CountGiven, WidthTold, PrecisionTold, KindTold, AllTold, SpecKnown, NoSpec, LeftTold, PlaceEnds};
+ghost use Rattle.quick.specs.PartsTold.{Room, part, alignByte, endsByte, blankWord, hintOf, onwardOf, NumberTold, PlaceTold, FillTold, CountGiven, WidthTold, PrecisionTold, TypeKnown, AllTold, SpecKnown, NoSpec, LeftTold, PlaceEnds};
 
-// A place or a count. Kind 0: nothing; 1: a number; 2: of a place a word, of a count a number with `$`; 3: a star; 4: a word with `$`; 9: it is
+// A place or a count. Tag 0: nothing; 1: a number; 2: of a place a word, of a count a number with `$`; 3: a star; 4: a word with `$`; 9: it is
 // not told. `blank`: the word `_` stands there, which is a fault.
-pub struct Part {
-    pub kind: u8,
+pub struct PartTold {
+    pub tag: u8,
     pub value: u16,
     pub end: usize,
     pub blank: bool,
 }
 
 // A type: where it ends, and whether it is a word, and the word `_`. Not `ok`: it is not told.
-pub struct Kind {
+pub struct TypeTold {
     pub ok: bool,
     pub word: bool,
     pub blank: bool,
@@ -41,13 +41,13 @@ pub struct SpecTold {
     pub zero: bool,
     pub from: usize,
     pub word: usize,
-    pub width: Part,
-    pub precision: Part,
-    pub kind: Kind,
+    pub width: PartTold,
+    pub precision: PartTold,
+    pub typed: TypeTold,
 }
 
 // What is said of a sign where a closing brace was expected.
-pub enum Hint {
+pub enum SignHint {
     Silent,
     Misplaced,
     Comma,
@@ -57,15 +57,15 @@ pub enum Hint {
 
 // A placeholder: its place, where the place ends with the whitespace after it, the spec if a colon stands there, where its closing brace stands or is
 // missing, and where reading goes on.
-pub struct Told {
+pub struct PlaceholderTold {
     pub ok: bool,
-    pub place: Part,
+    pub place: PartTold,
     pub to: usize,
     pub colon: bool,
     pub spec: SpecTold,
     pub close: usize,
     pub closed: bool,
-    pub hint: Hint,
+    pub hint: SignHint,
     pub on: usize,
 }
 
@@ -76,45 +76,45 @@ fn is_digit(b: u8) -> bool
 }
 
 // The number at a place, of at most four digits.
-fn number(text: &[u8], at: usize) -> Part
+fn number(text: &[u8], at: usize) -> PartTold
     requires { ⌜ Room (now text) at × (isDigit (getD (now text) at 0) ≡ true) ⌝ }
     ensures { λ r. ⌜ NumberTold (now (text .entry)) at r ⌝ }
 {
     let mut value = 0;
     let mut i = at;
     while i < at + 4 {
-        let b = unicode::byte(text, i);
+        let b = utf8::byte(text, i);
         if !is_digit(b) {
             return plain(1, value, i);
         }
         value = value * 10 + (b - 0x30) as u16;
         i += 1;
     }
-    if is_digit(unicode::byte(text, i)) {
+    if is_digit(utf8::byte(text, i)) {
         return untold(i);
     }
     plain(1, value, i)
 }
 
 // A part in which nothing is wrong.
-fn plain(kind: u8, value: u16, end: usize) -> Part
-    ensures { λ r. ⌜ r ≡ part kind value end false ⌝ }
+fn plain(tag: u8, value: u16, end: usize) -> PartTold
+    ensures { λ r. ⌜ r ≡ part tag value end false ⌝ }
 {
-    Part {
-        kind,
+    PartTold {
+        tag,
         value,
         end,
         blank: false,
     }
 }
 
-fn untold(at: usize) -> Part
+fn untold(at: usize) -> PartTold
     ensures { λ r. ⌜ r ≡ part 9 0 at false ⌝ }
 {
     plain(9, 0, at)
 }
 
-fn nothing(at: usize) -> Part
+fn nothing(at: usize) -> PartTold
     ensures { λ r. ⌜ r ≡ part 0 0 at false ⌝ }
 {
     plain(0, 0, at)
@@ -125,10 +125,10 @@ fn word_end(text: &[u8], at: usize) -> usize
     requires { ⌜ Room (now text) at ⌝ }
     ensures { λ r. ⌜ r ≡ wordEnd (now (text .entry)) (place at) .0 ⌝ }
 {
-    let b = unicode::byte(text, at);
+    let b = utf8::byte(text, at);
     if b < 0x80 {
-        if unicode::ascii_start(b) {
-            return unicode::continue_end(text, at + 1);
+        if letters::ascii_start(b) {
+            return letters::continue_end(text, at + 1);
         }
         return at;
     }
@@ -137,11 +137,11 @@ fn word_end(text: &[u8], at: usize) -> usize
 }
 
 // The place of an argument. The word `r` is not told: it may begin a raw name.
-fn place(text: &[u8], at: usize) -> Part
+fn place(text: &[u8], at: usize) -> PartTold
     requires { ⌜ Room (now text) at ⌝ }
     ensures { λ r. ⌜ PlaceTold (now (text .entry)) at r ⌝ }
 {
-    let b = unicode::byte(text, at);
+    let b = utf8::byte(text, at);
     if is_digit(b) {
         return number(text, at);
     }
@@ -154,8 +154,8 @@ fn place(text: &[u8], at: usize) -> Part
             return untold(at);
         }
     }
-    Part {
-        kind: 2,
+    PartTold {
+        tag: 2,
         value: 0,
         end,
         blank: is_blank(b, at, end),
@@ -187,9 +187,9 @@ fn fill_end(text: &[u8], at: usize) -> usize
     requires { ⌜ Room (now text) at ⌝ }
     ensures { λ r. ⌜ FillTold (now (text .entry)) at r ⌝ }
 {
-    match unicode::peek(text, at) {
+    match utf8::peek(text, at) {
         Seen::Char { code: _, width } => {
-            if is_align(unicode::byte(text, at + width)) {
+            if is_align(utf8::byte(text, at + width)) {
                 return at + width;
             }
             at
@@ -199,17 +199,17 @@ fn fill_end(text: &[u8], at: usize) -> usize
 }
 
 // A count that begins with a digit.
-fn count(text: &[u8], at: usize) -> Part
+fn count(text: &[u8], at: usize) -> PartTold
     requires { ⌜ Room (now text) at × (isDigit (getD (now text) at 0) ≡ true) ⌝ }
     ensures { λ r. ⌜ CountGiven (now (text .entry)) at r ⌝ }
 {
     let read = number(text, at);
-    if read.kind == 9 {
+    if read.tag == 9 {
         return read;
     }
-    if unicode::byte(text, read.end) == b'$' {
-        return Part {
-            kind: 2,
+    if utf8::byte(text, read.end) == b'$' {
+        return PartTold {
+            tag: 2,
             value: read.value,
             end: read.end + 1,
             blank: false,
@@ -219,27 +219,27 @@ fn count(text: &[u8], at: usize) -> Part
 }
 
 // The width. `word` is where the word at `at` ends: with `$` it is a name, without it is left for the type.
-fn width(text: &[u8], at: usize, word: usize) -> Part
+fn width(text: &[u8], at: usize, word: usize) -> PartTold
     requires { ⌜ Room (now text) at × (word ≡ wordEnd (now text) (place at) .0) ⌝ }
     ensures { λ r. ⌜ WidthTold (now (text .entry)) at word r ⌝ }
 {
-    let b = unicode::byte(text, at);
+    let b = utf8::byte(text, at);
     if is_digit(b) {
         return count(text, at);
     }
     let blank = is_blank(b, at, word);
     if at < word {
-        if unicode::byte(text, word) == b'$' {
-            return Part {
-                kind: 4,
+        if utf8::byte(text, word) == b'$' {
+            return PartTold {
+                tag: 4,
                 value: 0,
                 end: word + 1,
                 blank,
             };
         }
     }
-    Part {
-        kind: 0,
+    PartTold {
+        tag: 0,
         value: 0,
         end: at,
         blank,
@@ -247,14 +247,14 @@ fn width(text: &[u8], at: usize, word: usize) -> Part
 }
 
 // The precision with its dot: a star or a number; any other is not told.
-fn precision(text: &[u8], at: usize) -> Part
+fn precision(text: &[u8], at: usize) -> PartTold
     requires { ⌜ Room (now text) at ⌝ }
     ensures { λ r. ⌜ PrecisionTold (now (text .entry)) at r ⌝ }
 {
-    if unicode::byte(text, at) != b'.' {
+    if utf8::byte(text, at) != b'.' {
         return nothing(at);
     }
-    let b = unicode::byte(text, at + 1);
+    let b = utf8::byte(text, at + 1);
     if b == b'*' {
         return plain(3, 0, at + 2);
     }
@@ -265,12 +265,12 @@ fn precision(text: &[u8], at: usize) -> Part
 }
 
 // A sign of a type, `?`, `x` or `X`: alone it is told.
-fn sign_kind(text: &[u8], at: usize) -> Kind
+fn sign_type(text: &[u8], at: usize) -> TypeTold
     requires { ⌜ Room (now text) (at + 1) ⌝ }
     ensures { λ r. ⌜ r ≡ record { ok = endsByte (getD (now (text .entry)) (at + 1) 0); word = false; blank = false; end = at + 1 } ⌝ }
 {
-    let after = unicode::byte(text, at + 1);
-    Kind {
+    let after = utf8::byte(text, at + 1);
+    TypeTold {
         ok: ends_spec(after),
         word: false,
         blank: false,
@@ -289,22 +289,22 @@ fn ends_spec(b: u8) -> bool
 }
 
 // The type. The word at `from` ends at `word`, and is not looked for again.
-fn kind_at(text: &[u8], at: usize, from: usize, word: usize) -> Kind
+fn type_at(text: &[u8], at: usize, from: usize, word: usize) -> TypeTold
     requires { ⌜ Room (now text) at × (word ≡ wordEnd (now text) (place from) .0) ⌝ }
-    ensures { λ r. ⌜ KindTold (now (text .entry)) at r ⌝ }
+    ensures { λ r. ⌜ TypeKnown (now (text .entry)) at r ⌝ }
 {
-    let b = unicode::byte(text, at);
+    let b = utf8::byte(text, at);
     if b == b'?' {
-        return sign_kind(text, at);
+        return sign_type(text, at);
     }
     if b == b'x' {
-        return sign_kind(text, at);
+        return sign_type(text, at);
     }
     if b == b'X' {
-        return sign_kind(text, at);
+        return sign_type(text, at);
     }
     let end = if at == from { word } else { word_end(text, at) };
-    Kind {
+    TypeTold {
         ok: true,
         word: at < end,
         blank: is_blank(b, at, end),
@@ -328,9 +328,9 @@ fn spec(text: &[u8], at: usize) -> SpecTold
     let word = word_end(text, from);
     let width = width(text, from, word);
     let precision = precision(text, width.end);
-    let kind = kind_at(text, precision.end, from, word);
+    let typed = type_at(text, precision.end, from, word);
     SpecTold {
-        ok: all_told(text, flag.ate, from, width, precision, kind),
+        ok: all_told(text, flag.ate, from, width, precision, typed),
         fill,
         align,
         sign,
@@ -340,26 +340,33 @@ fn spec(text: &[u8], at: usize) -> SpecTold
         word,
         width,
         precision,
-        kind,
+        typed,
     }
 }
 
 // Whether the parts of a spec are told. A `0` with `$` is no flag, and is not told.
-fn all_told(text: &[u8], zero: bool, from: usize, width: Part, precision: Part, kind: Kind) -> bool
-    ensures { λ r. ⌜ (r ≡ true → AllTold (now (text .entry)) zero from width precision kind) ⌝ }
+fn all_told(
+    text: &[u8],
+    zero: bool,
+    from: usize,
+    width: PartTold,
+    precision: PartTold,
+    typed: TypeTold,
+) -> bool
+    ensures { λ r. ⌜ (r ≡ true → AllTold (now (text .entry)) zero from width precision typed) ⌝ }
 {
     if zero {
-        if unicode::byte(text, from) == b'$' {
+        if utf8::byte(text, from) == b'$' {
             return false;
         }
     }
-    if width.kind == 9 {
+    if width.tag == 9 {
         return false;
     }
-    if precision.kind == 9 {
+    if precision.tag == 9 {
         return false;
     }
-    kind.ok
+    typed.ok
 }
 
 // Where no spec stands.
@@ -377,7 +384,7 @@ fn no_spec(at: usize) -> SpecTold
         word: at,
         width: nothing(at),
         precision: nothing(at),
-        kind: Kind {
+        typed: TypeTold {
             ok: true,
             word: false,
             blank: false,
@@ -387,19 +394,19 @@ fn no_spec(at: usize) -> SpecTold
 }
 
 // The placeholder whose place starts at `at`.
-pub fn tell(text: &[u8], at: usize) -> Told
+pub fn tell(text: &[u8], at: usize) -> PlaceholderTold
     requires { ⌜ Room (now text) at ⌝ }
     ensures { λ r. ⌜ Tells (now (text .entry)) at r ⌝ }
 {
     let place = place(text, at);
-    let to = unicode::space_end(text, place.end);
-    let b = unicode::byte(text, to);
+    let to = letters::space_end(text, place.end);
+    let b = utf8::byte(text, to);
     if b == b':' {
         return with_spec(text, place, to);
     }
     let closed = b == b'}';
     let hint = hint_at(text, to);
-    Told {
+    PlaceholderTold {
         ok: is_told(b, place, true),
         place,
         to,
@@ -413,16 +420,16 @@ pub fn tell(text: &[u8], at: usize) -> Told
 }
 
 // A placeholder with a colon at `to`.
-fn with_spec(text: &[u8], place: Part, to: usize) -> Told
+fn with_spec(text: &[u8], place: PartTold, to: usize) -> PlaceholderTold
     requires { ⌜ Room (now text) to × (getD (now text) to 0 ≡ 0x3A) ⌝ }
     ensures { λ r. ⌜ ((at : ℕ) → PlaceEnds (now (text .entry)) at place to → Tells (now (text .entry)) at r) ⌝ }
 {
     let spec = spec(text, to + 1);
-    let close = unicode::space_end(text, spec.kind.end);
-    let b = unicode::byte(text, close);
+    let close = letters::space_end(text, spec.typed.end);
+    let b = utf8::byte(text, close);
     let closed = b == b'}';
     let hint = hint_at(text, close);
-    Told {
+    PlaceholderTold {
         ok: is_told(b, place, spec.ok),
         place,
         to,
@@ -436,13 +443,13 @@ fn with_spec(text: &[u8], place: Part, to: usize) -> Told
 }
 
 // Whether a placeholder at whose end the byte `b` stands is told. A `?` and a `.` there may begin more.
-fn is_told(b: u8, place: Part, spec: bool) -> bool
+fn is_told(b: u8, place: PartTold, spec: bool) -> bool
     ensures { λ r. ⌜ (r ≡ true → LeftTold b place spec) ⌝ }
 {
     if !spec {
         return false;
     }
-    if place.kind == 9 {
+    if place.tag == 9 {
         return false;
     }
     if b == b'?' {
@@ -452,37 +459,37 @@ fn is_told(b: u8, place: Part, spec: bool) -> bool
 }
 
 // What is said of the sign at a place where a closing brace was expected, if two characters remain.
-fn hint_at(text: &[u8], at: usize) -> Hint
+fn hint_at(text: &[u8], at: usize) -> SignHint
     requires { ⌜ Room (now text) at ⌝ }
     ensures { λ r. ⌜ r ≡ hintOf (now (text .entry)) at ⌝ }
 {
-    let b = unicode::byte(text, at);
+    let b = utf8::byte(text, at);
     // Most placeholders are closed.
     if b == b'}' {
-        return Hint::Silent;
+        return SignHint::Silent;
     }
     if text.len() <= at + 1 {
-        return Hint::Silent;
+        return SignHint::Silent;
     }
     if is_align(b) {
-        return Hint::Misplaced;
+        return SignHint::Misplaced;
     }
     if b == b',' {
-        return Hint::Comma;
+        return SignHint::Comma;
     }
     if b == b'+' {
-        return Hint::Plus;
+        return SignHint::Plus;
     }
     if b == b'=' {
-        if unicode::byte(text, at + 1) == b'}' {
-            return Hint::Equals;
+        if utf8::byte(text, at + 1) == b'}' {
+            return SignHint::Equals;
         }
     }
-    Hint::Silent
+    SignHint::Silent
 }
 
 // Where reading goes on: after the closing brace, or after a sign of which something is said.
-fn onward(closed: bool, hint: Hint, close: usize) -> usize
+fn onward(closed: bool, hint: SignHint, close: usize) -> usize
     requires { ⌜ close ≤ 65535 ⌝ }
     ensures { λ r. ⌜ r ≡ onwardOf closed hint close ⌝ }
 {
@@ -490,10 +497,10 @@ fn onward(closed: bool, hint: Hint, close: usize) -> usize
         return close + 1;
     }
     match hint {
-        Hint::Silent => close,
-        Hint::Misplaced => close + 1,
-        Hint::Comma => close + 1,
-        Hint::Plus => close + 1,
-        Hint::Equals => close + 1,
+        SignHint::Silent => close,
+        SignHint::Misplaced => close + 1,
+        SignHint::Comma => close + 1,
+        SignHint::Plus => close + 1,
+        SignHint::Equals => close + 1,
     }
 }

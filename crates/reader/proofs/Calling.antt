@@ -5,28 +5,29 @@ use mathlib.Core.List.{List}
 use Prim.Native.Nat.{ℕ, _*_, _/_, _≤_}
 use native.Mathlib.Omega.{arith}
 use lib.Dec.{eqb}
-use lib.ListN.{length, replicate}
+use lib.ListN.{length}
 use borrow.Author.Tests.{eqb-true, not-false}
-use Rattle.unicode.specs.Choice.{pick}
-use Rattle.unicode.specs.ChoiceLaws.{pick-elim}
-use Rattle.frame.specs.Spans.{Small}
+use Rattle.utf8.specs.Choice.{pick}
+use Rattle.utf8.specs.ChoiceLaws.{pick-elim}
+use Rattle.frame.specs.Bounds.{Small}
 use Rattle.frame.specs.declared.Frame.{Frame}
-use Rattle.placeholder.specs.declared.Mode.{Mode}
+use Rattle.frame.specs.declared.Mode.{Mode}
 use Rattle.reading.specs.Lists.{pieces, errors, places, lines, countsOf}
 use Rattle.reading.specs.declared.Counts.{Counts}
 use Rattle.reading.specs.declared.Piece.{Piece}
 use Rattle.reading.specs.declared.ErrorRecord.{ErrorRecord}
-use Rattle.answer.specs.Answers.{frameFor, modeFor, countedAnswer, answerOf, Decided}
-use Rattle.answer.specs.AnswerLaws.{Done, decided-done}
+use Rattle.reading.specs.Answers.{frameFor, modeFor, answerOf}
+use Rattle.laws.specs.Deciding.{answer-passed}
+use Rattle.answer.specs.Decisions.{Decided}
+use Rattle.laws.specs.AnswerLaws.{Done}
+use Rattle.answer.specs.DecisionLaws.{decided-done}
 use Rattle.reading.specs.Written.{over, pairs}
-use Rattle.answer.specs.Exits.{atExit}
-use Rattle.turns.specs.Turns.{noPiece}
-use Rattle.answer.specs.declared.Request.{Request}
-use Rattle.answer.specs.declared.Rooms.{Rooms}
-use Rattle.answer.specs.declared.Answer.{Answer}
+use Rattle.reading.specs.Exits.{atExit}
+use Rattle.reading.specs.declared.Request.{Request}
+use Rattle.reading.specs.declared.Rooms.{Rooms}
+use Rattle.reading.specs.declared.Answer.{Answer}
 use Rattle.answer.specs.declared.Decision.{Decision}
-use Rattle.reader.specs.declared.call.Reading.{Reading}
-use Rattle.reader.specs.Calls.{roomsOf, Read, noError, noPieces, noErrors, noSpans, rooms256, Read256}
+use Rattle.reading.specs.Calls.{roomsOf, Read}
 use Rattle.reader.proofs.Filling.{over-empty}
 
 -- a list at exit, where the number is 0 and where it is not
@@ -37,18 +38,6 @@ at-done n new old z = ap (λ (b : Bool). pick b (over new old) old) z
 at-refused : {A : Type 0} (n : ℕ) (new old : List A) → eqb n 0 ≡ false → atExit n new old ≡ old
 unfolding atExit pick
 at-refused n new old z = ap (λ (b : Bool). pick b (over new old) old) z
-
--- an answer of 0 has the counts of the lists
-answer-counts : (t s : List ℕ) (q : Request) (r : Rooms) → answerOf t s q r .number ≡ 0 → answerOf t s q r .counts ≡ countsOf t (frameFor t s q) (modeFor q)
-unfolding answerOf countedAnswer
-answer-counts t s q r =
-    let P : Answer → Type 0 = λ a. a .number ≡ 0 → a .counts ≡ countsOf t (frameFor t s q) (modeFor q) in
-    pick-elim P _ (λ _ e. absurd (omega arith))
-    (λ _. pick-elim P _
-    (λ _. pick-elim P _ (λ _ e. absurd (omega arith))
-    (λ _. pick-elim P _ (λ _ e. absurd (omega arith))
-    (λ _. pick-elim P _ (λ _ e. absurd (omega arith)) (λ _ _. refl))))
-    (λ _ e. absurd (omega arith)))
 
 module _ (ps : List Piece) (es : List ErrorRecord) (ls ns : List ℕ) where
   -- how many records the lists have room for, as the call counts them
@@ -112,7 +101,7 @@ module _ (ps : List Piece) (es : List ErrorRecord) (ls ns : List ℕ) where
         where
           counted : d .answer .counts .errors ≡ length (errors t (frameFor t s q) (modeFor q))
           counted = ap (λ (a : Answer). a .counts .errors) (decided .answer) ∙
-              ap (λ (c : Counts). c .errors) (answer-counts t s q rooms (ap (λ (a : Answer). a .number) (sym (decided .answer)) ∙ is-zero))
+              ap (λ (c : Counts). c .errors) (answer-passed t s q rooms (ap (λ (a : Answer). a .number) (sym (decided .answer)) ∙ is-zero) .counts)
 
       -- the lists where the call is done: the records over the first
       pub finished : (ps′ : List Piece) (es′ : List ErrorRecord) (ls′ ns′ : List ℕ) → ps′ ≡ over (pieces t (d .frame) (d .mode)) ps → es′ ≡ over (errors t (d .frame) (d .mode)) es
@@ -129,21 +118,3 @@ module _ (ps : List Piece) (es : List ErrorRecord) (ls ns : List ℕ) where
         where
           the : {X Y : Type 0} (g : Frame → Mode → X) (k : X → Y) → k (g (d .frame) (d .mode)) ≡ k (g (frameFor t s q) (modeFor q))
           the g k = ap (λ (f : Frame). k (g f (d .mode))) framed ∙ ap (λ (m : Mode). k (g (frameFor t s q) m)) moded
-
--- A call with lists of 256 records that hold nothing is one whose lists have room for 256 each.
-rooms-256 : roomsOf noPieces noErrors noSpans noSpans ≡ rooms256
-unfolding roomsOf noPieces noErrors noSpans
-rooms-256 = refl
-
-none : (t s : List ℕ) (q : Request) (x : Reading) → Read t s q (replicate 256 noPiece) (x .pieces) (replicate 256 noError) (x .errors) (replicate 512 0) (x .places) (replicate 512 0) (x .lines) (x .answer)
-    → Read t s q noPieces (x .pieces) noErrors (x .errors) noSpans (x .places) noSpans (x .lines) (x .answer)
-unfolding noPieces noErrors noSpans
-none t s q x read = read
-
-pub read-256 : (t s : List ℕ) (q : Request) (x : Reading) (p : Piece) (e : ErrorRecord) → p ≡ noPiece → e ≡ noError
-    → Read t s q (replicate 256 p) (x .pieces) (replicate 256 e) (x .errors) (replicate 512 0) (x .places) (replicate 512 0) (x .lines) (x .answer) → Read256 t s q x
-read-256 t s q x p e is-p is-e read = record { answer = are .answer ∙ ap (answerOf t s q) rooms-256; lists = are .lists }
-  where
-    are : Read t s q noPieces (x .pieces) noErrors (x .errors) noSpans (x .places) noSpans (x .lines) (x .answer)
-    are = none t s q x (subst (λ (y : Piece). Read t s q (replicate 256 y) (x .pieces) (replicate 256 noError) (x .errors) (replicate 512 0) (x .places) (replicate 512 0) (x .lines) (x .answer)) is-p
-        (subst (λ (y : ErrorRecord). Read t s q (replicate 256 p) (x .pieces) (replicate 256 y) (x .errors) (replicate 512 0) (x .places) (replicate 512 0) (x .lines) (x .answer)) is-e read))

@@ -44,9 +44,9 @@ use denote.Triple.Clauses.{Ended, Clauses, closing}
 use denote.Triple.Walked.{says, needs, Stays, stay-slice, stay-none, stay-none-slice, walkOf, goes-slice, goes-none, goes-none-slice, Walks, ends-at, walked, walk-meets}
 use denote.Exit.{yes, left}
 use denote.Signature.{Signature, plain}
-use Rattle.frame.specs.Spans.{Small}
+use Rattle.frame.specs.Bounds.{Small}
 use Rattle.frame.specs.declared.Frame.{Frame}
-use Rattle.placeholder.specs.declared.Mode.{Mode}
+use Rattle.frame.specs.declared.Mode.{Mode}
 use Rattle.reading.specs.Written.{over}
 use Rattle.turns.specs.Turns.{Fresh, firstCursor}
 use Rattle.turns.specs.TurnLaws.{fresh-first}
@@ -62,8 +62,8 @@ use Rattle.reader.proofs.Runs as Runs
 use Rattle.reader.proofs.Runs.{Course, Run}
 use Rattle.frame.proofs.Frame as Fr
 use Rattle.frame.proofs.Frame.Laws as Fr′
-use Rattle.placeholder.proofs.Mode as Mo
-use Rattle.placeholder.proofs.Mode.Laws as Mo′
+use Rattle.frame.proofs.Mode as Mo
+use Rattle.frame.proofs.Mode.Laws as Mo′
 use Rattle.turns.proofs.Cursor as Cu
 use Rattle.turns.proofs.Cursor.Laws as Cu′
 use Rattle.turns.proofs.first_cursor as fc

@@ -8,7 +8,7 @@ use native.Mathlib.Numerals.{add-one}
 use native.Mathlib.Omega.{arith}
 use lib.ListN.{length, drop, set, getD, length-append, length-drop}
 use lib.Seq.{drop-cons, drop-drop, drop-append-add, take-append-seam, set-append-seam, append-snoc}
-use Rattle.unicode.specs.Choice.{pick}
+use Rattle.utf8.specs.Choice.{pick}
 use Rattle.reading.specs.Written.{over}
 use Rattle.reader.specs.Lent.{inFront, put}
 

@@ -6,9 +6,7 @@ pub mod Element
 pub mod Fields
 pub mod Fill
 pub mod Filling
-pub mod Handing
 pub mod Push
 pub mod Records
 pub mod Runs
 pub mod Shift
-pub mod Slot

@@ -1,6 +1,6 @@
 // Records in a lent list: one added at the back, one put in front with a shift, a whole list filled.
 use frame::Frame;
-use placeholder::Mode;
+use frame::Mode;
 use reading::ErrorRecord;
 use reading::Piece;
 use turns::first_cursor;
@@ -9,7 +9,7 @@ use turns::next_piece;
 ghost use mathlib.Core.Path.{_≡_};
 ghost use Prim.Native.Nat.{_<_, _≤_, _+_};
 ghost use lib.ListN.{length, set};
-ghost use Rattle.frame.specs.Spans.{Small};
+ghost use Rattle.frame.specs.Bounds.{Small};
 ghost use Rattle.reading.specs.Lists.{pieces as piecesIn, errors as errorsIn};
 ghost use Rattle.reader.specs.Lent.{inFront, put as putAt, FilledBy};
 

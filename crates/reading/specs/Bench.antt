@@ -1,23 +1,19 @@
--- The template bench of document 01, B1 to B15: one table and one statement. Format, no style, no snippet, except B15.
--- A row is a text, its frame, and what its reading shows: pieces, errors (kind, span), line spans.
+-- The template bench of document 01, B1 to B15, further cases and refusals: tables with every field of every record, one statement
+-- that the checker computes. Format, no style, no snippet, where nothing else is said.
 use Prim.Native.Nat.{ℕ}
 use mathlib.Core.Path.{_≡_, refl}
 use mathlib.Core.Bool.{Bool, true, false}
 use mathlib.Core.List.{List, [], _∷_}
-use Rattle.unicode.specs.Choice.{pick, within}
-use Rattle.unicode.specs.Table.{member}
-use Rattle.unicode.specs.Start.{start}
-use Rattle.unicode.specs.Continue.{continue}
-use Rattle.unicode.specs.Space.{space}
-use Rattle.unicode.specs.Questions.{isSpace, isStart, isContinue}
-use Rattle.unicode.specs.Utf8.{low, high, sequenceOf, charOf, sequenceAt, decode, peekAt}
-use Rattle.unicode.specs.Chars.{charsAt, charsFrom, takeWhile, bytes, runEnd}
-use Rattle.frame.specs.Places.{place, snippet, rangeOf, spanOf}
+use Rattle.utf8.specs.Choice.{pick, within}
+use Rattle.utf8.specs.Utf8.{low, high, sequenceOf, charOf, sequenceAt, decode, peekAt, valid, validPrefix}
+use Rattle.utf8.specs.Chars.{charsAt, charsFrom, takeWhile, bytes, runEnd}
+use Rattle.letters.specs.Table.{member}
+use Rattle.letters.specs.Start.{start}
+use Rattle.letters.specs.Continue.{continue}
+use Rattle.letters.specs.Space.{space}
+use Rattle.letters.specs.Questions.{isSpace, isStart, isContinue}
 use Rattle.frame.specs.Frames.{frameOf, body, hashMarks, opening, closing, rawLiteral, same, isLiteral, endOf}
 use Rattle.frame.specs.Spans.{toSnippet, startOf, spanBetween}
-use Rattle.frame.specs.declared.Frame.{Frame}
-use Rattle.frame.specs.declared.Span.{Span}
-use Rattle.frame.specs.declared.Style.{Style}
 use Rattle.scan.specs.Characters.{isAt, pastAt, consumed, spacesPast, isPlain, textEnd}
 use Rattle.scan.specs.Ends as ends
 use Rattle.scan.specs.Words.{wordEnd, isUnderscore, wordRead, isDigit, decimal, noted, digitsAt, numberFrom, numberRead}
@@ -29,140 +25,196 @@ use Rattle.placeholder.specs.Types.{hexType, isHexOrHash, debugType, wordType, 
 use Rattle.placeholder.specs.Format.{formatRead}
 use Rattle.placeholder.specs.Specs.{diagnosticType, specRead}
 use Rattle.placeholder.specs.Arguments.{argumentRead}
-use Rattle.closing.specs.Defaults.{noMarks, noCounts, isDefault, isIdentifier}
-use Rattle.closing.specs.Recovery.{expectedAt, afterQuestion, signHint, fieldRead, recoverRead}
-use Rattle.closing.specs.Wholes.{missingRead, placeholderRead}
+use Rattle.placeholder.specs.declared.Align.{Align}
 use Rattle.placeholder.specs.declared.Fill.{Fill}
-use Rattle.placeholder.specs.declared.MaybeSpan.{MaybeSpan}
-use Rattle.placeholder.specs.declared.Mode.{Mode}
 use Rattle.placeholder.specs.declared.Place.{Place}
+use Rattle.closing.specs.Defaults.{noMarks, noCounts, isDefault, isIdentifier}
+use Rattle.closing.specs.Recovery.{gapAt, afterQuestion, signHint, fieldRead, recoverRead}
+use Rattle.closing.specs.Wholes.{missingRead, placeholderRead}
 use Rattle.reading.specs.Steps.{afterOpen, afterClose, stepAt, stepsFrom, reading}
 use Rattle.reading.specs.Faults.{argumentSlots, missingSlots, closingSlots, stepSlots, wrong, faultsOf}
-use Rattle.reading.specs.Records.{recordOf}
+use Rattle.reading.specs.Records.{errorOf, bareError, recordOf}
 use Rattle.reading.specs.Lines.{before, charsIn, newlines, cut, lineAfter, endedLines, lineStart}
-use Rattle.reading.specs.Lists.{gather, pieces, frontOnly, backOnly, reversed, listed, records, faults, errors, places, literalChars, toTheEnd, linesIn, lines}
-use Rattle.reading.specs.declared.Piece.{Piece}
-use Rattle.reading.specs.declared.ErrorRecord.{ErrorRecord}
+use Rattle.reading.specs.Lists.{gather, pieces, frontOnly, backOnly, reversed, listed, records, faults, errors, places, literalChars, toTheEnd, sameSpan, isLast, linesIn, lines, countsOf}
+use Rattle.reading.specs.Answers.{noCounts as none-counted, answered, isLong, isBroken, endsInNewline, lacksNewline, modeOf, frameFor, firstOf, answerBy, answerOf}
+use Rattle.reading.specs.Cases.{Case, rooms256, allGiven, bytesOf, span, range, some, none, quoted, unquoted, lit, arg, named, spec, typed, empty, ask, counts, rooms, done, bare, source}
+use Rattle.reading.specs.declared.Answer.{Answer}
+use Rattle.reading.specs.declared.Hashes.{Hashes}
 
--- what a piece shows: a literal's bytes; an argument's bytes, place and its span, `0` flag, width and its span, precision, fill, type
-pub data Shown : Type 0 where
-  lit : ℕ → ℕ → Shown
-  arg : ℕ → ℕ → Place → Span → Bool → Count → MaybeSpan → Count → Fill → ℕ → ℕ → Shown
-
-abbrev pub showPiece : Piece → Shown
-showPiece (Piece.Literal r) = lit (r .start .0) (r .end .0)
-showPiece (Piece.Placeholder a) =
-    arg (a .range .start .0) (a .range .end .0) (a .place) (a .placespan) (a .spec .zero) (a .spec .width) (a .spec .widthspan)
-    (a .spec .precision) (a .spec .fill) (a .spec .kind .start .0) (a .spec .kind .end .0)
-
-unfoldable pub showPieces : List Piece → List Shown
-showPieces [] = []
-showPieces (x ∷ xs) = showPiece x ∷ showPieces xs
-
--- an error's kind and span
-pub record Kind : Type 0 where
-  pub kind : ℕ
-  pub span : Span
-
-unfoldable pub showErrors : List ErrorRecord → List Kind
-showErrors [] = []
-showErrors (x ∷ xs) = record { kind = x .kind; span = x .span } ∷ showErrors xs
-
--- a row: what is read, and what is shown
-pub record Row : Type 0 where
-  pub text : List ℕ
-  pub frame : Frame
-  pub pieces : List Shown
-  pub errors : List Kind
-  pub lines : List Span
-
--- what the reading of a row's text shows, in the row's place
-abbrev pub shown : Row → Row
-shown r =
-    record {
-      text = r .text;
-      frame = r .frame;
-      pieces = showPieces (pieces (r .text) (r .frame) Mode.Format);
-      errors = showErrors (errors (r .text) (r .frame) Mode.Format);
-      lines = lines (r .text) (r .frame) Mode.Format;
-    }
-
-unfoldable pub allShown : List Row → List Row
-allShown [] = []
-allShown (r ∷ rs) = shown r ∷ allShown rs
-
-abbrev pub between : ℕ → ℕ → Span
-between a b = spanOf (snippet a) (snippet b)
-
-abbrev pub kind : ℕ → ℕ → ℕ → Kind
-kind k a b = record { kind = k; span = between a b }
-
--- no style and no snippet
-abbrev pub bare : List ℕ → List Shown → List Kind → Row
-bare t ps es =
-    record {
-      text = t;
-      frame = frameOf t Style.Plain false [] false;
-      pieces = ps;
-      errors = es;
-      lines = [];
-    }
-
--- an argument whose spec shows nothing: its bytes, place and span, and where its empty type stands
-abbrev pub plain : ℕ → ℕ → Place → ℕ → ℕ → ℕ → Shown
-plain a b p s e k = arg a b p (between s e) false Count.Implied MaybeSpan.Absent Count.Implied Fill.Absent k k
-
--- a, newline, space, b
-abbrev pub twoLines : List ℕ
-twoLines = 0x61 ∷ 0x0A ∷ 0x20 ∷ 0x62 ∷ []
-
-abbrev pub table : List Row
+-- document 01's table
+abbrev pub table : List Case
 table =
-    -- B1 (empty): nothing
-    bare [] [] [] ∷
-    -- B2 `{{a`: literal bytes 1..3
-    bare (0x7B ∷ 0x7B ∷ 0x61 ∷ []) (lit 1 3 ∷ []) [] ∷
-    -- B3 `{}`: next 0, place span 2..2
-    bare (0x7B ∷ 0x7D ∷ []) (plain 0 2 (Place.Next 0) 2 2 1 ∷ []) [] ∷
-    -- B4 `{:.*}{}`: star 0, next 1; next 2
-    bare (0x7B ∷ 0x3A ∷ 0x2E ∷ 0x2A ∷ 0x7D ∷ 0x7B ∷ 0x7D ∷ [])
-    (arg 0 5 (Place.Next 1) (between 2 2) false Count.Implied MaybeSpan.Absent (Count.ByStar 0) Fill.Absent 4 4 ∷ plain 5 7 (Place.Next 2) 7 7 6 ∷ []) [] ∷
-    -- B5 `{:0$}`: width by argument 0, span 3..5, no zero flag
-    bare (0x7B ∷ 0x3A ∷ 0x30 ∷ 0x24 ∷ 0x7D ∷ [])
-    (arg 0 5 (Place.Next 0) (between 2 2) false (Count.ByArgument 0) (MaybeSpan.Present (between 3 5)) Count.Implied Fill.Absent 4 4 ∷ []) [] ∷
-    -- B6 `{:0}`: zero flag, width implied
-    bare (0x7B ∷ 0x3A ∷ 0x30 ∷ 0x7D ∷ []) (arg 0 4 (Place.Next 0) (between 2 2) true Count.Implied MaybeSpan.Absent Count.Implied Fill.Absent 3 3 ∷ []) [] ∷
-    -- B7 `{65535}`: at 65535, clean
-    bare (0x7B ∷ 0x36 ∷ 0x35 ∷ 0x35 ∷ 0x33 ∷ 0x35 ∷ 0x7D ∷ []) (plain 0 7 (Place.At 65535) 2 7 6 ∷ []) [] ∷
-    -- B8 `{65536}`: at 0; kind 7, span 2..8 (it takes in the next character)
-    bare (0x7B ∷ 0x36 ∷ 0x35 ∷ 0x35 ∷ 0x33 ∷ 0x36 ∷ 0x7D ∷ []) (plain 0 7 (Place.At 0) 2 7 6 ∷ []) (kind 7 2 8 ∷ []) ∷
-    -- B9 `{:}<`: fill `}`, left; kind 3 at 4..4
-    bare (0x7B ∷ 0x3A ∷ 0x7D ∷ 0x3C ∷ [])
-    (arg 0 4 (Place.Next 0) (between 2 2) false Count.Implied MaybeSpan.Absent Count.Implied (Fill.Present 0x7D (between 3 4)) 4 4 ∷ []) (kind 3 4 4 ∷ []) ∷
-    -- B10 `{foo?}`: kinds 9 (5..6), 2 (5..5), 1 (6..7)
-    bare (0x7B ∷ 0x66 ∷ 0x6F ∷ 0x6F ∷ 0x3F ∷ 0x7D ∷ []) (plain 0 5 (Place.Named (rangeOf (place 1) (place 4))) 2 5 4 ∷ [])
-    (kind 9 5 6 ∷ kind 2 5 5 ∷ kind 1 6 7 ∷ []) ∷
-    -- B11 `{:_}`: kind 6 twice, 3..4
-    bare (0x7B ∷ 0x3A ∷ 0x5F ∷ 0x7D ∷ []) (arg 0 4 (Place.Next 0) (between 2 2) false Count.Implied MaybeSpan.Absent Count.Implied Fill.Absent 2 3 ∷ [])
-    (kind 6 3 4 ∷ kind 6 3 4 ∷ []) ∷
-    -- B12 `}`: kind 1, 1..2
-    bare (0x7D ∷ []) [] (kind 1 1 2 ∷ []) ∷
-    -- B13 `{:x5}`: type x; kinds 2 (4..4), 1 (5..6); literal 3..4
-    bare (0x7B ∷ 0x3A ∷ 0x78 ∷ 0x35 ∷ 0x7D ∷ [])
-    (arg 0 3 (Place.Next 0) (between 2 2) false Count.Implied MaybeSpan.Absent Count.Implied Fill.Absent 2 3 ∷ lit 3 4 ∷ []) (kind 2 4 4 ∷ kind 1 5 6 ∷ []) ∷
-    -- B14 `{a.b}`: kinds 13 (2..5), 2 (3..3)
-    bare (0x7B ∷ 0x61 ∷ 0x2E ∷ 0x62 ∷ 0x7D ∷ []) (plain 0 5 (Place.Named (rangeOf (place 1) (place 2))) 2 3 2 ∷ []) (kind 13 2 5 ∷ kind 2 3 3 ∷ []) ∷
-    -- B15 a, newline, space, b; style 0, matching snippet: lines 2..3 and 5..6
+    -- B1: nothing
+    bare 0 "" [] [] ∷
+    -- B2: literal bytes 1..3
+    bare 0 "{{a" (lit 1 3 ∷ []) [] ∷
+    -- B3: next 0, place span 2..2
+    bare 0 "{}" (arg 0 2 (Place.Next 0) (span 2 2) (empty 1) ∷ []) [] ∷
+    -- B4: star 0, next 1; next 2
+    bare 0 "{:.*}{}"
+    (arg 0 5 (Place.Next 1) (span 2 2) (spec Fill.Absent Align.Unknown false Count.Implied none (Count.ByStar 0) (some 3 5) (range 4 4) none) ∷
+    arg 5 7 (Place.Next 2) (span 7 7) (empty 6) ∷
+    []) [] ∷
+    -- B5: width by argument 0, span 3..5, no zero flag
+    bare 0 "{:0$}"
+    (arg 0 5 (Place.Next 0) (span 2 2) (spec Fill.Absent Align.Unknown false (Count.ByArgument 0) (some 3 5) Count.Implied none (range 4 4) none) ∷
+    []) [] ∷
+    -- B6: zero flag, width implied
+    bare 0 "{:0}"
+    (arg 0 4 (Place.Next 0) (span 2 2) (spec Fill.Absent Align.Unknown true Count.Implied none Count.Implied none (range 3 3) none) ∷ []) [] ∷
+    -- B7: at 65535, clean
+    bare 0 "{65535}" (arg 0 7 (Place.At 65535) (span 2 7) (empty 6) ∷ []) [] ∷
+    -- B8: at 0; kind 7, span 2..8 (it takes in the next character)
+    bare 0 "{65536}" (arg 0 7 (Place.At 0) (span 2 7) (empty 6) ∷ []) (errorOf 7 (span 2 8) none (quoted 1 6) none ∷ []) ∷
+    -- B9: fill `}`, left; kind 3 at 4..4, second 3..4
+    bare 0 "{:}<"
+    (arg 0 4 (Place.Next 0) (span 2 2)
+    (spec (Fill.Present 0x7D (span 3 4)) Align.Left false Count.Implied none Count.Implied none (range 4 4) none) ∷
+    []) (errorOf 3 (span 4 4) (some 3 4) unquoted none ∷ []) ∷
+    -- B10: kinds 9 (5..6), 2 (5..5), 1 (6..7)
+    bare 0 "{foo?}" (arg 0 5 (named 1 4) (span 2 5) (empty 4) ∷ [])
+    (errorOf 9 (span 5 6) none unquoted (some 5 6) ∷ errorOf 2 (span 5 5) (some 1 2) (quoted 4 5) none ∷ bareError 1 (span 6 7) ∷ []) ∷
+    -- B11: kind 6 twice, 3..4
+    bare 0 "{:_}" (arg 0 4 (Place.Next 0) (span 2 2) (typed 2 3 (some 3 4)) ∷ []) (bareError 6 (span 3 4) ∷ bareError 6 (span 3 4) ∷ []) ∷
+    -- B12: kind 1, 1..2
+    bare 0 "}" [] (bareError 1 (span 1 2) ∷ []) ∷
+    -- B13: type x; kinds 2 (4..4), 1 (5..6); literal 3..4
+    bare 0 "{:x5}" (arg 0 3 (Place.Next 0) (span 2 2) (typed 2 3 none) ∷ lit 3 4 ∷ [])
+    (errorOf 2 (span 4 4) (some 1 2) (quoted 3 4) none ∷ bareError 1 (span 5 6) ∷ []) ∷
+    -- B14: kinds 13 (2..5), 2 (3..3)
+    bare 0 "{a.b}" (arg 0 5 (named 1 2) (span 2 3) (empty 2) ∷ [])
+    (bareError 13 (span 2 5) ∷ errorOf 2 (span 3 3) (some 1 2) (quoted 2 3) none ∷ []) ∷
+    -- B15, style 0, matching snippet: lines 2..3 and 5..6
+    source 0 "a\n b" "r\"a\n b\"" (lit 0 4 ∷ []) [] [] (span 2 3 ∷ span 5 6 ∷ []) ∷
+    []
+
+-- further cases: the kinds that the table leaves out, each field that a kind has, and what source literals give
+abbrev pub further : List Case
+further =
+    -- kind 4: at the end, where spans lack the quote offset; it is put at the front, and `r#` is suggested to go
+    bare 0 "{r#a" (arg 0 4 (named 3 4) (span 2 4) (empty 4) ∷ [])
+    (errorOf 4 (span 2 4) none unquoted (some 2 4) ∷ errorOf 3 (span 4 4) (some 1 2) unquoted none ∷ []) ∷
+    -- kind 5 comes after a plain `?`
+    bare 0 "{:?x}" (arg 0 3 (Place.Next 0) (span 2 2) (typed 2 3 none) ∷ lit 3 4 ∷ [])
+    (errorOf 5 (span 4 5) none (quoted 3 4) (some 3 5) ∷ errorOf 2 (span 4 4) (some 1 2) (quoted 3 4) none ∷ bareError 1 (span 5 6) ∷ []) ∷
+    -- kind 8: a `?` before `:`; the word after them is quoted
+    bare 0 "{a?:x}" (arg 0 5 (named 1 2) (span 2 3) (empty 2) ∷ [])
+    (errorOf 8 (span 3 4) none (quoted 4 5) none ∷ errorOf 2 (span 3 3) (some 1 2) (quoted 2 3) none ∷ bareError 1 (span 6 7) ∷ []) ∷
+    -- and so is an empty one, where reading stood
+    bare 0 "{?:}" (arg 0 3 (Place.Next 0) (span 2 2) (empty 1) ∷ [])
+    (errorOf 8 (span 2 3) none (quoted 3 3) none ∷ errorOf 2 (span 2 2) (some 1 2) (quoted 1 2) none ∷ bareError 1 (span 4 5) ∷ []) ∷
+    -- kind 9 comes with a colon too
+    bare 0 "{:a?}" (arg 0 4 (Place.Next 0) (span 2 2) (typed 2 3 (some 3 4)) ∷ [])
+    (errorOf 9 (span 4 5) none unquoted (some 4 5) ∷ errorOf 2 (span 4 4) (some 1 2) (quoted 3 4) none ∷ bareError 1 (span 5 6) ∷ []) ∷
+    -- any other `?` is passed silently
+    bare 0 "{a?b}" (arg 0 3 (named 1 2) (span 2 3) (empty 2) ∷ lit 3 4 ∷ [])
+    (errorOf 2 (span 3 3) (some 1 2) (quoted 2 3) none ∷ bareError 1 (span 5 6) ∷ []) ∷
+    -- nothing follows kind 2 where one character remains, and nothing is passed
+    bare 0 "{a?" (arg 0 2 (named 1 2) (span 2 3) (empty 2) ∷ lit 2 3 ∷ []) (errorOf 2 (span 3 3) (some 1 2) (quoted 2 3) none ∷ []) ∷
+    -- kind 10
+    bare 0 "{a=}" (arg 0 3 (named 1 2) (span 2 3) (empty 2) ∷ [])
+    (errorOf 10 (span 3 4) (some 1 2) unquoted none ∷ errorOf 2 (span 3 3) (some 1 2) (quoted 2 3) none ∷ bareError 1 (span 4 5) ∷ []) ∷
+    -- kind 11
+    bare 0 "{a<}" (arg 0 3 (named 1 2) (span 2 3) (empty 2) ∷ [])
+    (errorOf 11 (span 3 4) none (quoted 2 3) none ∷ errorOf 2 (span 3 3) (some 1 2) (quoted 2 3) none ∷ bareError 1 (span 4 5) ∷ []) ∷
+    -- kind 12
+    bare 0 "{a+}" (arg 0 3 (named 1 2) (span 2 3) (empty 2) ∷ [])
+    (bareError 12 (span 3 4) ∷ errorOf 2 (span 3 3) (some 1 2) (quoted 2 3) none ∷ bareError 1 (span 4 5) ∷ []) ∷
+    -- kind 15
+    bare 0 "{a,}" (arg 0 3 (named 1 2) (span 2 3) (empty 2) ∷ [])
+    (errorOf 15 (span 3 4) (some 1 2) unquoted none ∷ errorOf 2 (span 3 3) (some 1 2) (quoted 2 3) none ∷ bareError 1 (span 4 5) ∷ []) ∷
+    -- kind 14
+    bare 0 "{a.0}" (arg 0 5 (named 1 2) (span 2 3) (empty 2) ∷ [])
+    (bareError 14 (span 2 5) ∷ errorOf 2 (span 3 3) (some 1 2) (quoted 2 3) none ∷ []) ∷
+    -- a nameless field takes a number, and nothing is said of it
+    bare 0 "{a.}{}" (arg 0 4 (named 1 2) (span 2 3) (empty 2) ∷ arg 4 6 (Place.Next 1) (span 6 6) (empty 5) ∷ [])
+    (errorOf 2 (span 3 3) (some 1 2) (quoted 2 3) none ∷ []) ∷
+    -- so does its star, before it
+    bare 0 "{a.:.*}{}" (arg 0 7 (named 1 2) (span 2 3) (empty 2) ∷ arg 7 9 (Place.Next 2) (span 9 9) (empty 8) ∷ [])
+    (errorOf 2 (span 3 3) (some 1 2) (quoted 2 3) none ∷ []) ∷
+    -- kind 13 needs a spec equal to the default, and a space leaves it so
+    bare 0 "{a: .b}" (arg 0 7 (named 1 2) (span 2 3) (empty 3) ∷ [])
+    (bareError 13 (span 2 7) ∷ errorOf 2 (span 5 5) (some 1 2) (quoted 4 5) none ∷ []) ∷
+    -- in InlineAsm a dot is no precision
+    bare 1 "{a:.b}" (arg 0 6 (named 1 2) (span 2 3) (empty 3) ∷ [])
+    (bareError 13 (span 2 6) ∷ errorOf 2 (span 4 4) (some 1 2) (quoted 3 4) none ∷ []) ∷
+    -- in Format it is, and the word is the type
+    bare 0 "{a:.b}"
+    (arg 0 6 (named 1 2) (span 2 3) (spec Fill.Absent Align.Unknown false Count.Implied none Count.Implied (some 4 5) (range 4 5) (some 5 6)) ∷ []) [] ∷
+    -- no whitespace is skipped before the `}` of a field: no kind 13
+    bare 0 "{a.b:x }" (arg 0 6 (named 1 2) (span 2 3) (empty 2) ∷ lit 6 7 ∷ [])
+    (errorOf 2 (span 3 3) (some 1 2) (quoted 2 3) none ∷ bareError 1 (span 8 9) ∷ []) ∷
+    -- kinds 6 and 7 at the end, where spans lack the quote offset
+    bare 0 "{_" (arg 0 2 (named 1 2) (span 2 2) (empty 2) ∷ []) (bareError 6 (span 2 2) ∷ errorOf 3 (span 2 2) (some 1 2) unquoted none ∷ []) ∷
+    bare 0 "{65536" (arg 0 6 (Place.At 0) (span 2 6) (empty 6) ∷ [])
+    (errorOf 7 (span 2 6) none (quoted 1 6) none ∷ errorOf 3 (span 6 6) (some 1 2) unquoted none ∷ []) ∷
+    -- in Diagnostic the type's text starts after the colon, its span at the colon
+    bare 2 "{a:x }" (arg 0 6 (named 1 2) (span 2 3) (typed 3 5 (some 3 6)) ∷ []) [] ∷
+    -- a source literal: argument places, brace to brace
+    source 0 "{}{a}" "r\"{}{a}\"" (arg 0 2 (Place.Next 0) (span 3 3) (empty 1) ∷ arg 2 5 (named 3 4) (span 5 6) (empty 4) ∷ [])
+    [] (span 2 4 ∷ span 4 7 ∷ []) (span 2 7 ∷ []) ∷
+    -- a placeholder that is not closed gives none
+    source 0 "{a" "r\"{a\"" (arg 0 2 (named 1 2) (span 3 4) (empty 2) ∷ []) (errorOf 3 (span 4 4) (some 2 3) unquoted none ∷ []) []
+    (span 2 4 ∷ []) ∷
+    -- a stop at a lone `}` adds no last line
+    source 0 "a\n}" "r\"a\n}\"" (lit 0 2 ∷ []) (bareError 1 (span 4 5) ∷ []) [] (span 2 3 ∷ []) ∷
+    -- after an appended newline the last line starts past "end"
     record {
-      text = twoLines;
-      frame = frameOf twoLines (Style.Raw 0) true (0x72 ∷ 0x22 ∷ 0x61 ∷ 0x0A ∷ 0x20 ∷ 0x62 ∷ 0x22 ∷ []) false;
-      pieces = lit 0 4 ∷ [];
+      text = bytesOf "a\n";
+      snippet = bytesOf "r\"a\"";
+      request = ask 0 (Hashes.Raw 0) true true;
+      answer = done (lit 0 2 ∷ []) [] [] (span 2 3 ∷ span 4 3 ∷ []);
+      pieces = lit 0 2 ∷ [];
       errors = [];
-      lines = between 2 3 ∷ between 5 6 ∷ [];
+      places = [];
+      lines = span 2 3 ∷ span 4 3 ∷ [];
     } ∷
     []
 
--- THE BENCH: each row is what its reading shows
-pub bench : allShown table ≡ table
-unfolding allShown showPieces showErrors pick within member start continue space isSpace isStart isContinue low high sequenceOf charOf sequenceAt decode peekAt charsAt charsFrom takeWhile bytes runEnd frameOf body hashMarks opening closing rawLiteral same isLiteral endOf toSnippet startOf spanBetween isAt pastAt consumed spacesPast isPlain textEnd ends.endOf ends.spanAcross wordEnd isUnderscore wordRead isDigit decimal noted digitsAt numberFrom numberRead isEmpty numberCount nameCount countRead isR rawPlace wordPlace placeRead isAlign fillRead alignRead signRead plainWidth widthRead afterDot precisionRead hexType isHexOrHash debugType wordType typeRead formatRead diagnosticType specRead argumentRead noMarks noCounts isDefault isIdentifier expectedAt afterQuestion signHint fieldRead recoverRead missingRead placeholderRead afterOpen afterClose stepAt stepsFrom reading argumentSlots missingSlots closingSlots stepSlots wrong faultsOf recordOf before charsIn newlines cut lineAfter endedLines lineStart gather pieces frontOnly backOnly reversed listed records faults errors places literalChars toTheEnd linesIn lines
-bench = refl
+-- a call's answer, and the one that it is to have
+pub record Asked : Type 0 where
+  pub is : Answer
+  pub expected : Answer
+
+abbrev pub asked : Answer → Answer → Asked
+asked x y = record { is = x; expected = y }
+
+unfoldable pub answers : List Asked → List Answer
+answers [] = []
+answers (x ∷ xs) = x .is ∷ answers xs
+
+unfoldable pub expectations : List Asked → List Answer
+expectations [] = []
+expectations (x ∷ xs) = x .expected ∷ expectations xs
+
+-- each refusal, and the order of those that a call can meet together; 3 takes a text longer than a case
+abbrev pub refused : List Asked
+refused =
+    asked (answerOf [] [] (ask 3 Hashes.Plain true false) rooms256) (answered 1 0 none-counted) ∷
+    asked (answerOf (0xFF ∷ []) [] (ask 0 Hashes.Plain true false) rooms256) (answered 2 0 none-counted) ∷
+    asked (answerOf [] [] (ask 0 (Hashes.Raw 256) false false) rooms256) (answered 2 0 none-counted) ∷
+    asked (answerOf (0x61 ∷ 0xFF ∷ []) [] (ask 0 Hashes.Plain false true) rooms256) (answered 4 1 none-counted) ∷
+    asked (answerOf (bytesOf "a") [] (ask 0 Hashes.Plain false true) rooms256) (answered 5 0 none-counted) ∷
+    asked (answerOf (bytesOf "{a.b}") [] (ask 0 Hashes.Plain false false) (rooms 0 1 0 0)) (answered 6 0 (counts 1 2 0 0)) ∷
+    asked (answerOf (bytesOf "{a.b}") [] (ask 0 Hashes.Plain false false) (rooms 1 1 0 0)) (answered 7 0 (counts 1 2 0 0)) ∷
+    asked (answerOf (bytesOf "{}") (bytesOf "r\"{}\"") (ask 0 (Hashes.Raw 0) true false) (rooms 1 0 0 0)) (answered 8 0 (counts 1 0 1 1)) ∷
+    asked (answerOf (bytesOf "{}") (bytesOf "r\"{}\"") (ask 0 (Hashes.Raw 0) true false) (rooms 1 0 1 0)) (answered 9 0 (counts 1 0 1 1)) ∷
+    []
+
+-- THE BENCH: each case is what the definitions give for its call
+pub bench :
+    (allGiven table ≡ table) ×
+    (allGiven further ≡ further) ×
+    (answers refused ≡ expectations refused)
+unfolding
+    allGiven bytesOf answers expectations pick within member start continue space isSpace isStart isContinue low high sequenceOf charOf sequenceAt decode peekAt
+    valid validPrefix charsAt charsFrom takeWhile bytes runEnd frameOf body hashMarks opening closing rawLiteral same isLiteral endOf
+    toSnippet startOf spanBetween isAt pastAt consumed spacesPast isPlain textEnd ends.endOf ends.spanAcross wordEnd isUnderscore wordRead
+    isDigit decimal noted digitsAt numberFrom numberRead isEmpty numberCount nameCount countRead isR rawPlace wordPlace placeRead isAlign
+    fillRead alignRead signRead plainWidth widthRead afterDot precisionRead hexType isHexOrHash debugType wordType typeRead formatRead
+    diagnosticType specRead argumentRead noMarks noCounts isDefault isIdentifier gapAt afterQuestion signHint fieldRead recoverRead
+    missingRead placeholderRead afterOpen afterClose stepAt stepsFrom reading argumentSlots missingSlots closingSlots stepSlots wrong
+    faultsOf recordOf before charsIn newlines cut lineAfter endedLines lineStart gather pieces frontOnly backOnly reversed listed records
+    faults errors places literalChars toTheEnd sameSpan isLast linesIn lines countsOf isLong isBroken endsInNewline lacksNewline modeOf
+    frameFor firstOf answerBy answerOf
+bench = (refl, refl, refl)

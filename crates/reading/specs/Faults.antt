@@ -1,31 +1,85 @@
 -- What a step found wrong, in the order of reading.
+use mathlib.Core.Bool.{Bool, true, false}
 use mathlib.Core.List.{List, [], _∷_, _++_}
-use Rattle.unicode.specs.Choice.{pick}
-use Rattle.scan.specs.declared.Fault.{Fault}
-use Rattle.closing.specs.Recovery.{isClean}
-use Rattle.placeholder.specs.declared.ArgumentFaults.{ArgumentFaults}
+use Rattle.utf8.specs.Choice.{pick}
+use Rattle.frame.specs.declared.TextPlace.{TextPlace}
+use Rattle.scan.specs.declared.Flaw.{Flaw}
+use Rattle.placeholder.specs.declared.ArgumentFlaws.{ArgumentFlaws}
+use Rattle.closing.specs.declared.recover.Gap.{Gap}
+use Rattle.closing.specs.declared.recover.Hint.{Hint}
 use Rattle.closing.specs.declared.recover.Recovery.{Recovery}
 use Rattle.closing.specs.declared.whole.Closing.{Closing}
+use Rattle.reading.specs.declared.Fault.{Fault}
 use Rattle.reading.specs.declared.Step.{Step}
 
--- an argument's: its place's, its raw name's, its width's, its precision's, its type's
-unfoldable pub argumentSlots : ArgumentFaults → List Fault
-argumentSlots a = a .place ∷ a .raw ∷ a .width ∷ a .precision ∷ a .kind ∷ []
+-- nothing is wrong
+abbrev pub isClean : Fault → Bool
+isClean Fault.Clean = true
+isClean (Fault.Unmatched p) = false
+isClean (Fault.Expected p why) = false
+isClean (Fault.Unclosed why) = false
+isClean (Fault.RawName r) = false
+isClean (Fault.AfterDebug p) = false
+isClean (Fault.Underscore r) = false
+isClean (Fault.TooLarge r) = false
+isClean (Fault.DebugFirst p r) = false
+isClean (Fault.NoColon p) = false
+isClean (Fault.Equals p brace) = false
+isClean (Fault.Misplaced p) = false
+isClean (Fault.PlusFirst p) = false
+isClean (Fault.Field a b) = false
+isClean (Fault.TupleIndex a b) = false
+isClean (Fault.Comma p brace) = false
 
--- where a closing brace is missing: that it is, then the word's, the field's, and the suggestion
-unfoldable pub missingSlots : Fault → Recovery → List Fault
-missingSlots missing on = missing ∷ on .word ∷ (argumentSlots (on .field) ++ (on .hint ∷ []))
+-- what a leaf found
+abbrev pub flawFault : Flaw → Fault
+flawFault Flaw.Clean = Fault.Clean
+flawFault (Flaw.RawName r) = Fault.RawName r
+flawFault (Flaw.AfterDebug p) = Fault.AfterDebug p
+flawFault (Flaw.Underscore r) = Fault.Underscore r
+flawFault (Flaw.TooLarge r) = Fault.TooLarge r
 
-unfoldable pub closingSlots : Closing → List Fault
-closingSlots (Closing.Closed p) = []
-closingSlots (Closing.Missing missing on) = missingSlots missing on
+-- that a closing brace is missing
+abbrev pub gapFault : Gap → Fault
+gapFault (Gap.Before p why) = Fault.Expected p why
+gapFault (Gap.AtEnd why) = Fault.Unclosed why
 
--- everything that a step may have found wrong, the clean ones too
+-- what is said there, in a placeholder whose opening brace stands at a place
+abbrev pub hintFault : TextPlace → Hint → Fault
+hintFault brace Hint.Silent = Fault.Clean
+hintFault brace (Hint.DebugFirst p r) = Fault.DebugFirst p r
+hintFault brace (Hint.NoColon p) = Fault.NoColon p
+hintFault brace (Hint.Equals p) = Fault.Equals p brace
+hintFault brace (Hint.Misplaced p) = Fault.Misplaced p
+hintFault brace (Hint.PlusFirst p) = Fault.PlusFirst p
+hintFault brace (Hint.Field a b) = Fault.Field a b
+hintFault brace (Hint.TupleIndex a b) = Fault.TupleIndex a b
+hintFault brace (Hint.Comma p) = Fault.Comma p brace
+
+-- an argument's: its place's, its raw name's, its width's, its precision's, its type's (R7.3)
+unfoldable pub argumentSlots : ArgumentFlaws → List Fault
+argumentSlots a =
+    flawFault (a .place) ∷
+    flawFault (a .raw) ∷
+    flawFault (a .width) ∷
+    flawFault (a .precision) ∷
+    flawFault (a .typetext) ∷
+    []
+
+-- where a closing brace is missing: that it is, then the word's, the field's, and what is said (R7.3)
+unfoldable pub missingSlots : TextPlace → Gap → Recovery → List Fault
+missingSlots brace gap on = gapFault gap ∷ flawFault (on .word) ∷ (argumentSlots (on .field) ++ (hintFault brace (on .hint) ∷ []))
+
+unfoldable pub closingSlots : TextPlace → Closing → List Fault
+closingSlots brace (Closing.Closed p) = []
+closingSlots brace (Closing.Missing gap on) = missingSlots brace gap on
+
+-- everything that a step may have found wrong, the clean ones too (R7.3)
 unfoldable pub stepSlots : Step → List Fault
 stepSlots Step.End = []
 stepSlots (Step.Stop p) = Fault.Unmatched p ∷ []
 stepSlots (Step.Literal r) = []
-stepSlots (Step.Placeholder p) = argumentSlots (p .faults) ++ closingSlots (p .closing)
+stepSlots (Step.Placeholder p) = argumentSlots (p .flaws) ++ closingSlots (p .argument .range .start) (p .closing)
 
 -- those that are not clean
 unfoldable pub wrong : List Fault → List Fault

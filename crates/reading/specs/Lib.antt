@@ -1,18 +1,13 @@
--- Definitions (Steps, Faults, Records, Lines, Lists, Texts), their laws, and computed cases (Bench, Examples).
+-- What a call takes and gives (Steps, Faults, Records, Lines, Lists, Texts, Answers, Exits, Calls), and computed cases (Cases, Bench).
 pub mod Steps
-pub mod StepLaws
-pub mod WalkLaws
 pub mod Faults
-pub mod FaultLaws
 pub mod Records
 pub mod Lines
-pub mod LineLaws
 pub mod Lists
 pub mod Written
-pub mod ListLaws
-pub mod OrderLaws
-pub mod PaidLaws
-pub mod RoomLaws
+pub mod Answers
+pub mod Exits
+pub mod Calls
 pub mod Texts
+pub mod Cases
 pub mod Bench
-pub mod Examples

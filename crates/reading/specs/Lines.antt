@@ -1,12 +1,13 @@
 -- The lines of literal text. "A newline ends a line when it stands outside placeholders. Whitespace at a line's start is cut from it when
 -- read as literal text." In Diagnostic mode the text after a colon is literal text too.
 use Prim.Native.Nat.{ℕ, suc, _+_}
+use Prim.Native.Char.{code}
 use mathlib.Core.List.{List, [], _∷_}
 use mathlib.Core.Bool.{Bool}
 use lib.Dec.{eqb, ltb}
-use Rattle.unicode.specs.Choice.{pick, both}
-use Rattle.unicode.specs.Chars.{Ch, charsFrom}
-use Rattle.unicode.specs.Questions.{isSpace}
+use Rattle.utf8.specs.Choice.{pick, both}
+use Rattle.utf8.specs.Chars.{Ch, charsFrom}
+use Rattle.letters.specs.Questions.{isSpace}
 use Rattle.frame.specs.Places.{place, spanOf}
 use Rattle.frame.specs.Spans.{toSnippet}
 use Rattle.frame.specs.declared.TextRange.{TextRange}
@@ -19,12 +20,12 @@ unfoldable pub before : ℕ → List Ch → List Ch
 before e [] = []
 before e (c ∷ cs) = pick (ltb (c .at) e) (c ∷ before e cs) []
 
--- the characters of a part of the text
+-- the characters of a part of the text (R6.10)
 unfoldable pub charsIn : List ℕ → TextRange → List Ch
 charsIn t r = before (r .end .0) (charsFrom t (r .start .0))
 
 abbrev pub isNewline : Ch → Bool
-isNewline c = eqb (c .code) 0x0A
+isNewline c = eqb (c .code) (code "\n")
 
 -- how many newlines there are
 unfoldable pub newlines : List Ch → ℕ
@@ -38,7 +39,7 @@ chStart f c = toSnippet f (place (c .at))
 abbrev pub chEnd : Frame → Ch → SnippetPlace
 chEnd f c = toSnippet f (place (c .at + c .width))
 
--- whitespace that stands where the line starts moves the start past it
+-- whitespace that stands where the line starts moves the start past it (R6.12)
 unfoldable pub cut : Frame → SnippetPlace → Ch → SnippetPlace
 cut f line c = pick (both (eqb (chStart f c .0) (line .0)) (isSpace (c .code))) (chEnd f c) line
 
@@ -46,13 +47,13 @@ cut f line c = pick (both (eqb (chStart f c .0) (line .0)) (isSpace (c .code))) 
 unfoldable pub lineAfter : Frame → SnippetPlace → Ch → SnippetPlace
 lineAfter f line c = pick (isNewline c) (chEnd f c) (cut f line c)
 
--- the lines that end among characters, where the first line starts at a place
+-- the lines that end among characters, where the first line starts at a place (R6.11)
 unfoldable pub endedLines : Frame → SnippetPlace → List Ch → List Span
 endedLines f line [] = []
 endedLines f line (c ∷ cs) =
     pick (isNewline c) (spanOf line (chStart f c) ∷ endedLines f (lineAfter f line c) cs) (endedLines f (lineAfter f line c) cs)
 
--- where the line after them starts
+-- where the line after them starts (R6.14)
 unfoldable pub lineStart : Frame → SnippetPlace → List Ch → SnippetPlace
 lineStart f line [] = line
 lineStart f line (c ∷ cs) = lineStart f (lineAfter f line c) cs

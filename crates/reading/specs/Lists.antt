@@ -1,23 +1,24 @@
 -- The four lists of a reading, its stopping place, and how many records each list has.
-use Prim.Native.Nat.{ℕ, _+_, _≤_}
+use Prim.Native.Nat.{ℕ}
 use mathlib.Core.Bool.{Bool, true, false}
 use mathlib.Core.List.{List, [], _∷_, _++_}
+use lib.Dec.{eqb}
 use lib.ListN.{length}
-use Rattle.unicode.specs.Choice.{pick}
-use Rattle.unicode.specs.Chars.{Ch}
+use Rattle.utf8.specs.Choice.{pick, both}
+use Rattle.utf8.specs.Chars.{Ch}
 use Rattle.frame.specs.Places.{place, snippet, spanOf}
 use Rattle.frame.specs.declared.TextPlace.{TextPlace}
 use Rattle.frame.specs.declared.TextRange.{TextRange}
 use Rattle.frame.specs.declared.Span.{Span}
 use Rattle.frame.specs.declared.Frame.{Frame}
 use Rattle.scan.specs.Ends.{spanAcross}
-use Rattle.scan.specs.declared.Fault.{Fault}
-use Rattle.placeholder.specs.declared.Mode.{Mode}
+use Rattle.frame.specs.declared.Mode.{Mode}
 use Rattle.closing.specs.declared.whole.Closing.{Closing}
 use Rattle.reading.specs.Steps.{reading}
 use Rattle.reading.specs.Faults.{faultsOf}
 use Rattle.reading.specs.Records.{isFront, recordOf}
-use Rattle.reading.specs.Lines.{charsIn, newlines, endedLines, lineStart}
+use Rattle.reading.specs.Lines.{charsIn, endedLines, lineStart}
+use Rattle.reading.specs.declared.Fault.{Fault}
 use Rattle.reading.specs.declared.Step.{Step}
 use Rattle.reading.specs.declared.Piece.{Piece}
 use Rattle.reading.specs.declared.ErrorRecord.{ErrorRecord}
@@ -28,7 +29,7 @@ unfoldable pub gather : {A B : Type 0} → (A → List B) → List A → List B
 gather g [] = []
 gather g (x ∷ xs) = g x ++ gather g xs
 
--- PIECES: a literal's view, or an argument
+-- PIECES: a literal's view, or an argument (R5.1)
 abbrev pub piecesOf : Step → List Piece
 piecesOf Step.End = []
 piecesOf (Step.Stop p) = []
@@ -51,7 +52,7 @@ unfoldable pub reversed : List Fault → List Fault
 reversed [] = []
 reversed (x ∷ xs) = reversed xs ++ (x ∷ [])
 
--- "Added at the back: ..  Put at the front: .."
+-- "Added at the back: ..  Put at the front: .." (R7.2)
 unfoldable pub listed : List Fault → List Fault
 listed xs = reversed (frontOnly xs) ++ backOnly xs
 
@@ -66,10 +67,10 @@ faults t f m = gather faultsOf (reading t f m)
 unfoldable pub errors : List ℕ → Frame → Mode → List ErrorRecord
 errors t f m = records t f (listed (faults t f m))
 
--- ARGUMENT PLACES: "closed placeholders, brace to brace"
+-- ARGUMENT PLACES: "closed placeholders, brace to brace" (R6.9)
 abbrev pub closedSpan : List ℕ → Frame → TextPlace → Closing → List Span
 closedSpan t f brace (Closing.Closed p) = spanAcross t f brace p ∷ []
-closedSpan t f brace (Closing.Missing x on) = []
+closedSpan t f brace (Closing.Missing gap on) = []
 
 abbrev pub placesOf : List ℕ → Frame → Step → List Span
 placesOf t f Step.End = []
@@ -77,15 +78,16 @@ placesOf t f (Step.Stop p) = []
 placesOf t f (Step.Literal r) = []
 placesOf t f (Step.Placeholder p) = closedSpan t f (p .argument .range .start) (p .closing)
 
--- "Only source literals give argument places .. and line spans."
+-- "Only source literals give argument places .. and line spans." (R6.9)
 unfoldable pub places : List ℕ → Frame → Mode → List Span
 places t f m = pick (f .literal) (gather (placesOf t f) (reading t f m)) []
 
 -- LINE SPANS: the literal text that a step passes
 abbrev pub missingText : Closing → List TextRange
 missingText (Closing.Closed p) = []
-missingText (Closing.Missing x on) = on .text ∷ []
+missingText (Closing.Missing gap on) = on .text ∷ []
 
+-- (R6.10)
 abbrev pub textsOf : Step → List TextRange
 textsOf Step.End = []
 textsOf (Step.Stop p) = []
@@ -107,11 +109,24 @@ unfoldable pub toTheEnd : List Step → Bool
 toTheEnd [] = false
 toTheEnd (x ∷ xs) = pick (isEnd x) true (toTheEnd xs)
 
--- the lines of literal text, the first of which starts after the quote, and the last line at the end of the text; "a stop at a lone `}` adds none".
--- (The last line starts past the newline that ended the one before it, so the two are never equal: `last-differs` of OrderLaws.)
+-- two spans are the same
+unfoldable pub sameSpan : Span → Span → Bool
+sameSpan a b = both (eqb (a .start .0) (b .start .0)) (eqb (a .end .0) (b .end .0))
+
+-- the last of some spans is this one
+unfoldable pub isLast : Span → List Span → Bool
+isLast x [] = false
+isLast x (y ∷ []) = sameSpan x y
+isLast x (y ∷ z ∷ zs) = isLast x (z ∷ zs)
+
+-- the lines of literal text, the first of which starts after the quote. "At the end of the text the last line is added unless it equals
+-- the previous one; a stop at a lone `}` adds none." (It never does: `last-differs` of OrderLaws.) (R6.14)
 unfoldable pub linesIn : Frame → List Ch → Bool → List Span
 linesIn f cs ended =
-    endedLines f (snippet (f .quote)) cs ++ pick ended (spanOf (lineStart f (snippet (f .quote)) cs) (f .end) ∷ []) []
+    let first = snippet (f .quote) in
+    let before = endedLines f first cs in
+    let last = spanOf (lineStart f first cs) (f .end) in
+    before ++ pick ended (pick (isLast last before) [] (last ∷ [])) []
 
 unfoldable pub lines : List ℕ → Frame → Mode → List Span
 lines t f m = pick (f .literal) (linesIn f (literalChars t (reading t f m)) (toTheEnd (reading t f m))) []
@@ -127,10 +142,11 @@ unfoldable pub stopIn : List ℕ → List Step → TextPlace
 stopIn t [] = place (length t)
 stopIn t (x ∷ xs) = stopOf t (stopIn t xs) x
 
+-- (R1.7)
 unfoldable pub stoppingPlace : List ℕ → Frame → Mode → TextPlace
 stoppingPlace t f m = stopIn t (reading t f m)
 
--- COUNTS: each is the length of its list
+-- COUNTS: each is the length of its list (R1.6)
 unfoldable pub countsOf : List ℕ → Frame → Mode → Counts
 countsOf t f m =
     record {
@@ -139,52 +155,3 @@ countsOf t f m =
       places = length (places t f m);
       lines = length (lines t f m);
     }
-
--- what one step adds to each
-abbrev pub pieceCount : Step → ℕ
-pieceCount s = length (piecesOf s)
-
-abbrev pub closedCount : Closing → ℕ
-closedCount (Closing.Closed p) = 1
-closedCount (Closing.Missing x on) = 0
-
-abbrev pub placeCount : Step → ℕ
-placeCount Step.End = 0
-placeCount (Step.Stop p) = 0
-placeCount (Step.Literal r) = 0
-placeCount (Step.Placeholder p) = closedCount (p .closing)
-
-abbrev pub closingLines : List ℕ → Closing → ℕ
-closingLines t (Closing.Closed p) = 0
-closingLines t (Closing.Missing x on) = newlines (charsIn t (on .text))
-
-abbrev pub lineCount : List ℕ → Step → ℕ
-lineCount t Step.End = 1
-lineCount t (Step.Stop p) = 0
-lineCount t (Step.Literal r) = newlines (charsIn t r)
-lineCount t (Step.Placeholder p) = newlines (charsIn t (p .text)) + closingLines t (p .closing)
-
-unfoldable pub stepCounts : List ℕ → Frame → Step → Counts
-stepCounts t f s =
-    record {
-      pieces = pieceCount s;
-      errors = length (faultsOf s);
-      places = pick (f .literal) (placeCount s) 0;
-      lines = pick (f .literal) (lineCount t s) 0;
-    }
-
-abbrev pub sum : Counts → Counts → Counts
-sum a b =
-    record {
-      pieces = a .pieces + b .pieces;
-      errors = a .errors + b .errors;
-      places = a .places + b .places;
-      lines = a .lines + b .lines;
-    }
-
--- no count passes a number
-pub record Countable (most : ℕ) (c : Counts) : Type 0 where
-  pub pieces : c .pieces ≤ most
-  pub errors : c .errors ≤ most
-  pub places : c .places ≤ most
-  pub lines : c .lines ≤ most

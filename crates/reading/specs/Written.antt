@@ -4,11 +4,11 @@ use mathlib.Core.List.{List, [], _∷_, _++_}
 use lib.ListN.{length, drop}
 use Rattle.frame.specs.declared.Span.{Span}
 
--- records over the first of a list
+-- records over the first of a list (R1.3)
 unfoldable pub over : {A : Type 0} → List A → List A → List A
 over new old = new ++ drop (length new) old
 
--- a span is two numbers of its list: start, end
+-- a span is two numbers of its list: start, end (R1.8)
 unfoldable pub pairs : List Span → List ℕ
 pairs [] = []
 pairs (x ∷ xs) = x .start .0 ∷ x .end .0 ∷ pairs xs

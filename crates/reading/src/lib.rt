@@ -1,13 +1,10 @@
-// One step of the reader, the run over a whole text, and what a reading comes to: pieces, errors, argument places, line spans.
+// What a call takes and gives, what a reading is made of, and their definitions; no functions.
 use closing::whole::PlaceholderRead;
 use frame::Span;
 use frame::TextPlace;
 use frame::TextRange;
 use placeholder::Argument;
 use placeholder::MaybeSpan;
-
-pub mod steps; // steps.rt: one step
-pub mod text; // text.rt: a literal's bytes
 
 // Where reading stands, and the next argument's number.
 pub struct State {
@@ -27,6 +24,42 @@ pub enum Step {
 pub enum Onward {
     Over,
     To(State),
+}
+
+// What a reading found wrong: document 01's fifteen kinds, with the places that their records are made from.
+pub enum Fault {
+    // Nothing is wrong.
+    Clean,
+    // 1: a lone `}`.
+    Unmatched(TextPlace),
+    // 2: a `}` was expected where this character stands; the character that says why.
+    Expected(TextPlace, TextPlace),
+    // 3: a `}` was expected at the end; the character that says why.
+    Unclosed(TextPlace),
+    // 4: an `r#` name, its prefix included.
+    RawName(TextRange),
+    // 5: the `?` before a `#`, `x` or `X`.
+    AfterDebug(TextPlace),
+    // 6: the word `_`.
+    Underscore(TextRange),
+    // 7: the digits of a number above 65,535.
+    TooLarge(TextRange),
+    // 8: a `?` before `:`, and the word after them.
+    DebugFirst(TextPlace, TextRange),
+    // 9: a `?` before `}`, without a colon.
+    NoColon(TextPlace),
+    // 10: an `=` before `}`; the opening brace.
+    Equals(TextPlace, TextPlace),
+    // 11: an align that is misplaced.
+    Misplaced(TextPlace),
+    // 12: a `+` without a colon.
+    PlusFirst(TextPlace),
+    // 13: a field access, from the place's start to the field's end.
+    Field(TextPlace, TextPlace),
+    // 14: a tuple index, likewise.
+    TupleIndex(TextPlace, TextPlace),
+    // 15: a `,`; the opening brace.
+    Comma(TextPlace, TextPlace),
 }
 
 pub enum Piece {
@@ -54,4 +87,33 @@ pub struct Counts {
     pub errors: usize,
     pub places: usize,
     pub lines: usize,
+}
+
+// No style, or a raw string with so many hashes.
+pub enum Hashes {
+    Plain,
+    Raw(usize),
+}
+
+// How a text is to be read. A snippet that is not given is not looked at.
+pub struct Request {
+    pub mode: u8,
+    pub style: Hashes,
+    pub given: bool,
+    pub newline: bool,
+}
+
+// How many records each list has room for.
+pub struct Rooms {
+    pub pieces: usize,
+    pub errors: usize,
+    pub places: usize,
+    pub lines: usize,
+}
+
+// Document 01's number (0: done), the place (of 4, else 0), and the records needed (of 0 and 6 to 9, else none).
+pub struct Answer {
+    pub number: u8,
+    pub place: usize,
+    pub counts: Counts,
 }

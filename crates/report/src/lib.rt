@@ -1,7 +1,5 @@
 // What a program writes of a call: the lists are made here, lent to the reader, and listed, a line for each record.
 // Every function takes the output's buffer and how much of it is used, and gives how much is used afterwards (listing).
-use answer::Request;
-use answer::Rooms;
 use frame::SnippetPlace;
 use frame::Span;
 use frame::TextPlace;
@@ -10,6 +8,8 @@ use placeholder::MaybeSpan;
 use reading::ErrorRecord;
 use reading::MaybeRange;
 use reading::Piece;
+use reading::Request;
+use reading::Rooms;
 ghost use Prim.Native.Nat.{_≤_};
 
 pub mod lists; // lists.rt: the lists that are lent

@@ -1,5 +1,5 @@
 // The lines of each list. In full every field of a record stands in its line; in short each list stands after its count.
-use answer::Answer;
+use reading::Answer;
 use reading::ErrorRecord;
 use reading::Piece;
 

@@ -62,9 +62,9 @@ fn ask(question: u8, c: u32) -> bool {
         }
     }
     match question {
-        SPACE => unicode::is_space(c),
-        START => unicode::is_start(c),
-        _ => unicode::is_continue(c),
+        SPACE => letters::is_space(c),
+        START => letters::is_start(c),
+        _ => letters::is_continue(c),
     }
 }
 

@@ -1,4 +1,4 @@
--- Laws of numbers that wrap with the overflow noted, and of the digits at a place. Rests on Words and on `unicode`'s laws of runs.
+-- Laws of numbers that wrap with the overflow noted, and of the digits at a place. Rests on Words and on `utf8`'s laws of runs.
 use Prim.Native.Nat.{ℕ, _+_, _-_, _*_, _/_, _%_, _≤_, _<_, suc-le-suc}
 use mathlib.Core.Path.{_≡_, refl, sym, _∙_, ap}
 use mathlib.Core.Bool.{Bool, true, false}
@@ -7,11 +7,11 @@ use native.Mathlib.Nat.{lt-of-lt-of-le, mod-eq-of-lt, mod-add-mod, add-mod-mod, 
 use native.Mathlib.Omega.{arith}
 use borrow.Author.Tests.{ltb-true, ltb-false, lt-ltb, le-ltb}
 use lib.Dec.{ltb}
-use Rattle.unicode.specs.Choice.{pick, either}
-use Rattle.unicode.specs.Utf8.{peekAt}
-use Rattle.unicode.specs.Chars.{takeWhile, runEnd}
-use Rattle.unicode.specs.CharLaws.{Peeked, ended, run-more, run-stop, run-end}
-use Rattle.unicode.specs.declared.Seen.the-variants.{End}
+use Rattle.utf8.specs.Choice.{pick, either}
+use Rattle.utf8.specs.Utf8.{peekAt}
+use Rattle.utf8.specs.Chars.{takeWhile, runEnd}
+use Rattle.utf8.specs.CharLaws.{Peeked, ended, run-more, run-stop, run-end}
+use Rattle.utf8.specs.declared.Seen.the-variants.{End}
 use Rattle.frame.specs.Places.{place}
 use Rattle.frame.specs.declared.TextPlace.{TextPlace}
 use Rattle.scan.specs.Words.{isDigit, decimal, noted, digitsAt, numberFrom, numberRead}

@@ -1,5 +1,5 @@
 -- Laws of the leaves for their callers: where each stops, and that it stays within the text.
--- Rests on Characters, Words and Counts, and on the laws of characters and runs of `unicode`.
+-- Rests on Characters, Words and Counts, and on the laws of characters and runs of `utf8`.
 use Prim.Native.Nat.{ℕ, _+_, _≤_, _<_}
 use mathlib.Core.Path.{_≡_, refl, sym, _∙_}
 use mathlib.Core.Bool.{Bool, true, false, true≢false}
@@ -9,21 +9,21 @@ use native.Mathlib.Omega.{arith}
 use borrow.Author.Tests.{eqb-true, eq-eqb, ne-eqb}
 use lib.Dec.{eqb}
 use lib.ListN.{length, getD}
-use Rattle.unicode.specs.Choice.{pick}
-use Rattle.unicode.specs.ChoiceLaws.{pick-elim}
-use Rattle.unicode.specs.Utf8.{peekAt}
-use Rattle.unicode.specs.Chars.{Ch, charsFrom, takeWhile, bytes, runEnd}
-use Rattle.unicode.specs.CharLaws.{peeked, seen-in, past-end, end-past, ascii-char, char-ascii, spelled, run-more}
-use Rattle.unicode.specs.Questions.{isStart, isContinue, isSpace}
-use Rattle.unicode.specs.declared.Seen.{Seen}
-use Rattle.unicode.specs.declared.Seen.the-variants.{Char, End}
+use Rattle.utf8.specs.Choice.{pick}
+use Rattle.utf8.specs.ChoiceLaws.{pick-elim}
+use Rattle.utf8.specs.Utf8.{peekAt}
+use Rattle.utf8.specs.Chars.{Ch, charsFrom, takeWhile, bytes, runEnd}
+use Rattle.utf8.specs.CharLaws.{peeked, seen-in, past-end, end-past, ascii-char, char-ascii, spelled, run-more}
+use Rattle.letters.specs.Questions.{isStart, isContinue, isSpace}
+use Rattle.utf8.specs.declared.Seen.{Seen}
+use Rattle.utf8.specs.declared.Seen.the-variants.{Char, End}
 use Rattle.frame.specs.Places.{place, rangeOf}
 use Rattle.frame.specs.declared.TextPlace.{TextPlace}
 use Rattle.frame.specs.declared.Frame.{Frame}
 use Rattle.scan.specs.Characters.{sees, isAt, width, pastAt, consumed, spacesPast, isPlain, textEnd}
 use Rattle.scan.specs.Words.{wordSeen, wordEnd, wordRead, isDigit, numberFrom, numberRead}
 use Rattle.scan.specs.Counts.{numberCount, nameCount, countAfter, countRead}
-use Rattle.scan.specs.declared.Fault.{Fault}
+use Rattle.scan.specs.declared.Flaw.{Flaw}
 use Rattle.scan.specs.declared.NumberRead.{NumberRead}
 use Rattle.scan.specs.declared.Number.{Number}
 use Rattle.scan.specs.declared.CountRead.{CountRead}
@@ -208,7 +208,7 @@ module _ (t : List ℕ) (at : TextPlace) where
   pub number-in : at .0 ≤ length t → numberRead t at .digits .end .0 ≤ length t
   number-in h = rw number-range (run-in isDigit t (at .0) h)
 
-module _ (t : List ℕ) (n : ℕ) (at : TextPlace) (x : Fault) where
+module _ (t : List ℕ) (n : ℕ) (at : TextPlace) (x : Flaw) where
   -- a count that is a number ends where the number does, or past its `$`
   number-count-on : at .0 ≤ numberCount t n at x .at .0
   unfolding numberCount
@@ -243,7 +243,7 @@ module _ (t : List ℕ) (f : Frame) (at : TextPlace) where
   count-on = go (numberRead t at .number)
     where
       go : (n : Number) → at .0 ≤ countAfter t f at (numberRead t at) n .at .0
-      go (Number.Given n) = le-trans (number-on t at) (number-count-on t n (numberRead t at .digits .end) (numberRead t at .fault))
+      go (Number.Given n) = le-trans (number-on t at) (number-count-on t n (numberRead t at .digits .end) (numberRead t at .flaw))
       go Number.Nothing = name-count-on
 
   -- and ends within the text
@@ -252,5 +252,5 @@ module _ (t : List ℕ) (f : Frame) (at : TextPlace) where
   count-in h = go (numberRead t at .number)
     where
       go : (n : Number) → countAfter t f at (numberRead t at) n .at .0 ≤ length t
-      go (Number.Given n) = number-count-in t n (numberRead t at .digits .end) (numberRead t at .fault) (number-in t at h)
+      go (Number.Given n) = number-count-in t n (numberRead t at .digits .end) (numberRead t at .flaw) (number-in t at h)
       go Number.Nothing = name-count-in h

@@ -1,18 +1,19 @@
 -- A word and a number at a place.
 use Prim.Native.Nat.{ℕ, _+_, _-_, _*_, _%_}
+use Prim.Native.Char.{code}
 use mathlib.Core.Bool.{Bool}
 use mathlib.Core.List.{List, [], _∷_}
 use lib.Dec.{eqb, ltb}
-use Rattle.unicode.specs.Choice.{pick, both, within}
-use Rattle.unicode.specs.Utf8.{peekAt}
-use Rattle.unicode.specs.Chars.{Ch, charsFrom, takeWhile, runEnd}
-use Rattle.unicode.specs.Questions.{isStart, isContinue}
-use Rattle.unicode.specs.declared.Seen.{Seen}
-use Rattle.unicode.specs.declared.Seen.the-variants.{Char, End}
+use Rattle.utf8.specs.Choice.{pick, both, within}
+use Rattle.utf8.specs.Utf8.{peekAt}
+use Rattle.utf8.specs.Chars.{Ch, charsFrom, takeWhile, runEnd}
+use Rattle.letters.specs.Questions.{isStart, isContinue}
+use Rattle.utf8.specs.declared.Seen.{Seen}
+use Rattle.utf8.specs.declared.Seen.the-variants.{Char, End}
 use Rattle.frame.specs.Places.{place, rangeOf}
 use Rattle.frame.specs.declared.TextPlace.{TextPlace}
 use Rattle.scan.specs.Characters.{isAt}
-use Rattle.scan.specs.declared.Fault.{Fault}
+use Rattle.scan.specs.declared.Flaw.{Flaw}
 use Rattle.scan.specs.declared.WordRead.{WordRead}
 use Rattle.scan.specs.declared.Noted.{Noted}
 use Rattle.scan.specs.declared.Number.{Number}
@@ -23,33 +24,33 @@ abbrev pub wordSeen : List ℕ → TextPlace → Seen → TextPlace
 wordSeen t at End = at
 wordSeen t at (Char c w) = pick (isStart c) (place (runEnd isContinue t (at .0 + w))) at
 
--- "A word is one start and then continuations, taken as far as they go."
+-- "A word is one start and then continuations, taken as far as they go." (R3.5)
 unfoldable pub wordEnd : List ℕ → TextPlace → TextPlace
 wordEnd t at = wordSeen t at (peekAt t (at .0))
 
--- the word from a place to its end is `_`
+-- the word from a place to its end is `_` (R3.6)
 unfoldable pub isUnderscore : List ℕ → TextPlace → TextPlace → Bool
-isUnderscore t at end = both (isAt t at 0x5F) (eqb (end .0) (at .0 + 1))
+isUnderscore t at end = both (isAt t at (code "_")) (eqb (end .0) (at .0 + 1))
 
--- the word at a place, with kind 6 where it is `_`; "a word that is empty has the empty byte range where reading stood"
+-- the word at a place, with kind 6 where it is `_`; "a word that is empty has the empty byte range where reading stood" (R3.5, K6)
 unfoldable pub wordRead : List ℕ → TextPlace → WordRead
 wordRead t at =
     let end = wordEnd t at in
     record {
       word = rangeOf at end;
-      fault = pick (isUnderscore t at end) (Fault.Underscore (rangeOf at end)) Fault.Clean;
+      flaw = pick (isUnderscore t at end) (Flaw.Underscore (rangeOf at end)) Flaw.Clean;
     }
 
--- an ASCII digit
+-- an ASCII digit (R3.7)
 unfoldable pub isDigit : ℕ → Bool
 isDigit c = within c 0x30 0x39
 
--- the number that digits spell, after the number n
+-- the number that digits spell, after the number n (R3.7)
 unfoldable pub decimal : ℕ → List Ch → ℕ
 decimal n [] = n
 decimal n (c ∷ cs) = decimal (n * 10 + (c .code - 0x30)) cs
 
--- "Above 65,535 it is an error, and the kept remainder is the number modulo 65,536."
+-- "Above 65,535 it is an error, and the kept remainder is the number modulo 65,536." (R3.7)
 unfoldable pub noted : ℕ → Noted
 noted n = record { value = n % 65536; over = ltb 65535 n }
 
@@ -57,17 +58,17 @@ noted n = record { value = n % 65536; over = ltb 65535 n }
 unfoldable pub digitsAt : List ℕ → TextPlace → List Ch
 digitsAt t at = takeWhile isDigit (charsFrom t (at .0))
 
--- what the digits between two places come to, where they spell a number that is kept so
+-- what the digits between two places come to, where they spell a number that is kept so (R3.7)
 unfoldable pub numberFrom : Noted → TextPlace → TextPlace → NumberRead
 numberFrom k at end =
     pick (eqb (at .0) (end .0))
-    (record { number = Number.Nothing; digits = rangeOf at end; fault = Fault.Clean })
+    (record { number = Number.Nothing; digits = rangeOf at end; flaw = Flaw.Clean })
     (record {
       number = Number.Given (k .value);
       digits = rangeOf at end;
-      fault = pick (k .over) (Fault.TooLarge (rangeOf at end)) Fault.Clean;
+      flaw = pick (k .over) (Flaw.TooLarge (rangeOf at end)) Flaw.Clean;
     })
 
--- "A number is one or more ASCII digits." Kind 7 where it is too large.
+-- "A number is one or more ASCII digits." Kind 7 where it is too large. (R3.7, K7)
 unfoldable pub numberRead : List ℕ → TextPlace → NumberRead
 numberRead t at = numberFrom (noted (decimal 0 (digitsAt t at))) at (place (runEnd isDigit t (at .0)))

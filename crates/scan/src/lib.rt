@@ -4,29 +4,23 @@ use frame::SnippetPlace;
 use frame::Span;
 use frame::TextPlace;
 use frame::TextRange;
-use unicode::Seen;
+use utf8::Seen;
 ghost use mathlib.Core.Path.{_≡_};
 ghost use Prim.Native.Nat.{ℕ, _+_, _*_, _≤_, _<_};
 ghost use lib.ListN.{length};
-ghost use Rattle.frame.specs.Spans.{Small};
-ghost use Rattle.unicode.specs.Choice.{either};
-ghost use Rattle.unicode.specs.Chars.{runEnd};
-ghost use Rattle.unicode.specs.Blocks.{one, howMany};
+ghost use Rattle.frame.specs.Bounds.{Small};
+ghost use Rattle.utf8.specs.Choice.{either};
+ghost use Rattle.utf8.specs.Chars.{runEnd};
+ghost use Rattle.utf8.specs.Blocks.{one, howMany};
 ghost use Rattle.scan.specs.Characters.{isAt, pastAt, consumed, spacesPast, isPlain, isBrace, textEnd};
 ghost use Rattle.scan.specs.Ends.{endOf, spanAcross};
 ghost use Rattle.scan.specs.Words.{isDigit, wordEnd, wordRead, noted, numberFrom, numberRead};
 ghost use Rattle.scan.specs.Counts.{isEmpty, numberCount, nameCount, countRead};
 
-// What a part of the reader found wrong: document 01's error kinds, with the places that their records are made from.
-pub enum Fault {
+// What a leaf of the reader found wrong, with the bytes that its record is made from.
+pub enum Flaw {
     // Nothing is wrong.
     Clean,
-    // 1: a lone `}`.
-    Unmatched(TextPlace),
-    // 2: a `}` was expected where this character stands; the span that says why.
-    Expected(TextPlace, Span),
-    // 3: a `}` was expected at the end; the span that says why.
-    Unclosed(Span),
     // 4: an `r#` name, its prefix included.
     RawName(TextRange),
     // 5: the `?` before a `#`, `x` or `X`.
@@ -35,22 +29,6 @@ pub enum Fault {
     Underscore(TextRange),
     // 7: the digits of a number above 65,535.
     TooLarge(TextRange),
-    // 8: a `?` before `:`, and the word after them.
-    DebugFirst(TextPlace, TextRange),
-    // 9: a `?` before `}`, without a colon.
-    NoColon(TextPlace),
-    // 10: an `=` before `}`; the opening brace.
-    Equals(TextPlace, Span),
-    // 11: an align that is misplaced.
-    Misplaced(TextPlace),
-    // 12: a `+` without a colon.
-    PlusFirst(TextPlace),
-    // 13: a field access, from the place's start to the field's end.
-    Field(TextPlace, TextPlace),
-    // 14: a tuple index, likewise.
-    TupleIndex(TextPlace, TextPlace),
-    // 15: a `,`; the opening brace.
-    Comma(TextPlace, Span),
 }
 
 // Whether a character was there and was passed, and where reading stands.
@@ -62,7 +40,7 @@ pub struct Consumed {
 // A word, empty where none stands.
 pub struct WordRead {
     pub word: TextRange,
-    pub fault: Fault,
+    pub flaw: Flaw,
 }
 
 // A number modulo 65,536, and whether it is above 65,535.
@@ -79,7 +57,7 @@ pub enum Number {
 pub struct NumberRead {
     pub number: Number,
     pub digits: TextRange,
-    pub fault: Fault,
+    pub flaw: Flaw,
 }
 
 // A width or a precision.
@@ -94,7 +72,7 @@ pub enum Count {
 pub struct CountRead {
     pub count: Count,
     pub at: TextPlace,
-    pub fault: Fault,
+    pub flaw: Flaw,
 }
 
 // Whether the character at a place is the ASCII character `c`. No other character has a byte below 80 (hex), so one byte tells.
@@ -128,7 +106,7 @@ pub fn past(text: &[u8], at: TextPlace) -> TextPlace
     ensures { λ r. ⌜ r ≡ pastAt (now (text .entry)) at ⌝ }
 {
     let i = at.0;
-    match unicode::peek(text, i) {
+    match utf8::peek(text, i) {
         Seen::Char { code: _, width } => TextPlace(i + width),
         Seen::End => at,
     }
@@ -139,7 +117,7 @@ pub fn ws(text: &[u8], at: TextPlace) -> TextPlace
     ensures { λ r. ⌜ r ≡ spacesPast (now (text .entry)) at ⌝ }
 {
     let i = at.0;
-    TextPlace(unicode::space_end(text, i))
+    TextPlace(letters::space_end(text, i))
 }
 
 // The end of the literal text at a place: the next brace, or the end of the text. No byte of a longer character is a brace, so
@@ -229,7 +207,7 @@ pub fn end_of(text: &[u8], frame: Frame, at: TextPlace) -> SnippetPlace
     ensures { λ r. ⌜ r ≡ endOf (now (text .entry)) frame at ⌝ }
 {
     let i = at.0;
-    match unicode::peek(text, i) {
+    match utf8::peek(text, i) {
         Seen::Char { code: _, width } => {
             let end = TextPlace(i + width);
             frame::to_snippet(frame, end)
@@ -253,10 +231,10 @@ pub fn word_end(text: &[u8], at: TextPlace) -> TextPlace
     ensures { λ r. ⌜ r ≡ wordEnd (now (text .entry)) at ⌝ }
 {
     let i = at.0;
-    match unicode::peek(text, i) {
+    match utf8::peek(text, i) {
         Seen::Char { code, width } => {
-            if unicode::is_start(code) {
-                return TextPlace(unicode::continue_end(text, i + width));
+            if letters::is_start(code) {
+                return TextPlace(letters::continue_end(text, i + width));
             }
             at
         }
@@ -264,7 +242,7 @@ pub fn word_end(text: &[u8], at: TextPlace) -> TextPlace
     }
 }
 
-// The word at a place: one start, then continuations as far as they go. The word `_` is a fault.
+// The word at a place: one start, then continuations as far as they go. The word `_` is a flaw.
 pub fn word(text: &[u8], at: TextPlace) -> WordRead
     ensures { λ r. ⌜ r ≡ wordRead (now (text .entry)) at ⌝ }
 {
@@ -274,13 +252,13 @@ pub fn word(text: &[u8], at: TextPlace) -> WordRead
         if end.0 == at.0 + 1 {
             return WordRead {
                 word,
-                fault: Fault::Underscore(word),
+                flaw: Flaw::Underscore(word),
             };
         }
     }
     WordRead {
         word,
-        fault: Fault::Clean,
+        flaw: Flaw::Clean,
     }
 }
 
@@ -334,7 +312,7 @@ fn is_digit(code: u32) -> bool
     if 0x30 <= code { code <= 0x39 } else { false }
 }
 
-// The digits at a place as a number; above 65,535 it is a fault, and the remainder is kept.
+// The digits at a place as a number; above 65,535 it is a flaw, and the remainder is kept.
 pub fn integer(text: &[u8], at: TextPlace) -> NumberRead
     ensures { λ r. ⌜ r ≡ numberRead (now (text .entry)) at ⌝ }
 {
@@ -344,7 +322,7 @@ pub fn integer(text: &[u8], at: TextPlace) -> NumberRead
     };
     let mut i = at.0;
     loop {
-        match unicode::peek(text, i) {
+        match utf8::peek(text, i) {
             Seen::Char { code, width } => {
                 if is_digit(code) {
                     kept = then_digit(kept, (code - 0x30) as u16);
@@ -369,7 +347,7 @@ fn number_of(kept: Noted, at: TextPlace, end: TextPlace) -> NumberRead
         return NumberRead {
             number: Number::Nothing,
             digits,
-            fault: Fault::Clean,
+            flaw: Flaw::Clean,
         };
     }
     let number = Number::Given(kept.value);
@@ -377,13 +355,13 @@ fn number_of(kept: Noted, at: TextPlace, end: TextPlace) -> NumberRead
         return NumberRead {
             number,
             digits,
-            fault: Fault::TooLarge(digits),
+            flaw: Flaw::TooLarge(digits),
         };
     }
     NumberRead {
         number,
         digits,
-        fault: Fault::Clean,
+        flaw: Flaw::Clean,
     }
 }
 
@@ -395,8 +373,8 @@ pub fn is_empty(range: TextRange) -> bool
 }
 
 // A count that began with a number: `$` after it makes it an argument's.
-fn number_count(text: &[u8], value: u16, at: TextPlace, fault: Fault) -> CountRead
-    ensures { λ r. ⌜ r ≡ numberCount (now (text .entry)) value at fault ⌝ }
+fn number_count(text: &[u8], value: u16, at: TextPlace, flaw: Flaw) -> CountRead
+    ensures { λ r. ⌜ r ≡ numberCount (now (text .entry)) value at flaw ⌝ }
 {
     let dollar = consume(text, at, b'$');
     let end = dollar.at;
@@ -404,30 +382,30 @@ fn number_count(text: &[u8], value: u16, at: TextPlace, fault: Fault) -> CountRe
         return CountRead {
             count: Count::ByArgument(value),
             at: end,
-            fault,
+            flaw,
         };
     }
     CountRead {
         count: Count::Fixed(value),
         at,
-        fault,
+        flaw,
     }
 }
 
-// A count that is a word with `$` after it. A word without one is given back, and its fault is kept.
+// A count that is a word with `$` after it. A word without one is given back, and its flaw is kept.
 fn name_count(text: &[u8], frame: Frame, at: TextPlace) -> CountRead
     requires { ⌜ Small (now text) frame ⌝ }
     ensures { λ r. ⌜ r ≡ nameCount (now (text .entry)) frame at ⌝ }
 {
     let read = word(text, at);
     let name = read.word;
-    let fault = read.fault;
+    let flaw = read.flaw;
     let end = name.end;
     if is_empty(name) {
         return CountRead {
             count: Count::Implied,
             at,
-            fault,
+            flaw,
         };
     }
     let dollar = consume(text, end, b'$');
@@ -437,13 +415,13 @@ fn name_count(text: &[u8], frame: Frame, at: TextPlace) -> CountRead
         return CountRead {
             count: Count::ByName(name, span),
             at: past,
-            fault,
+            flaw,
         };
     }
     CountRead {
         count: Count::Implied,
         at,
-        fault,
+        flaw,
     }
 }
 
@@ -455,10 +433,10 @@ pub fn count_at(text: &[u8], frame: Frame, at: TextPlace) -> CountRead
     let read = integer(text, at);
     let number = read.number;
     let digits = read.digits;
-    let fault = read.fault;
+    let flaw = read.flaw;
     let end = digits.end;
     match number {
-        Number::Given(value) => number_count(text, value, end, fault),
+        Number::Given(value) => number_count(text, value, end, flaw),
         Number::Nothing => name_count(text, frame, at),
     }
 }

@@ -9,7 +9,7 @@ use lib.ListN.{length, take, drop, set, take-append-drop, length-append, length-
 use lib.Seq.{sets-eq, length-take-le, take-at, drop-at, drop-drop}
 use Rattle.frame.specs.declared.Span.{Span}
 use Rattle.reading.specs.Written.{over, pairs}
-use Rattle.reading.specs.ListLaws.{pairs-length}
+use Rattle.laws.specs.ListLaws.{pairs-length}
 use Rattle.spans.specs.Fills.{written, Put}
 
 -- of joined spans

@@ -6,25 +6,27 @@ use mathlib.Core.Bool.{Bool, true, false}
 use mathlib.Core.List.{List, [], _∷_, _++_, append-assoc, append-nil}
 use native.Mathlib.Nat.{zero-add}
 use lib.ListN.{length}
-use Rattle.unicode.specs.Choice.{pick}
-use Rattle.unicode.specs.Chars.{Ch}
+use Rattle.utf8.specs.Choice.{pick}
+use Rattle.utf8.specs.Chars.{Ch}
 use Rattle.frame.specs.Places.{place, spanOf}
 use Rattle.frame.specs.Spans.{toSnippet}
 use Rattle.frame.specs.declared.Frame.{Frame}
 use Rattle.frame.specs.declared.SnippetPlace.{SnippetPlace}
 use Rattle.frame.specs.declared.Span.{Span}
-use Rattle.placeholder.specs.declared.Mode.{Mode}
+use Rattle.frame.specs.declared.Mode.{Mode}
 use Rattle.reading.specs.Lines.{isNewline, chStart, chEnd, cut, lineAfter, endedLines, lineStart}
-use Rattle.reading.specs.LineLaws.{ended-append, start-append}
+use Rattle.laws.specs.LineLaws.{ended-append, start-append}
 use Rattle.reading.specs.Steps.{stepAt, onward, follow, stepsFrom, reading}
-use Rattle.reading.specs.Lists.{gather, textsOf, literalChars, isEnd, toTheEnd, linesIn, lines, placesOf, places}
-use Rattle.reading.specs.ListLaws.{literal-more}
+use Rattle.reading.specs.Lists.{gather, textsOf, literalChars, isEnd, toTheEnd, lines, placesOf, places}
+use Rattle.laws.specs.ListLaws.{literal-more, plainLines}
 use Rattle.reading.specs.declared.State.{State}
 use Rattle.reading.specs.declared.Step.{Step}
 use Rattle.reading.specs.declared.Onward.{Onward}
 use Rattle.spans.specs.Fills.{written, LinesPut, stepChars, lastOf}
 use Rattle.spans.specs.declared.LineRun.{LineRun}
-use Rattle.reading.specs.WalkLaws.{steps-some, steps-on, steps-over}
+use Rattle.laws.specs.StepLaws.{not-end}
+use Rattle.laws.specs.OrderLaws.{lines-plain}
+use Rattle.laws.specs.WalkLaws.{steps-some, steps-on, steps-over}
 use Rattle.spans.proofs.Filling.{Going, going-first, going-done, going-room, going-on, put-none, put-one}
 
 -- ONE CHARACTER
@@ -126,22 +128,16 @@ module _ (t : List ℕ) (f : Frame) where
 
   module _ (line : SnippetPlace) (x : Step) where
     -- those of a step after which reading goes on, and then the others
-    pub lines-left-on : (xs : List Step) (n : ℕ) {a : State} → onward n x ≡ Onward.To a →
+    pub lines-left-on : (xs : List Step) (s : State) {a : State} → onward s x ≡ Onward.To a →
         linesLeft t f line (x ∷ xs) ≡ endedLines f line (stepChars t x) ++ linesLeft t f (lineStart f line (stepChars t x)) xs
     unfolding linesLeft toTheEnd pick
-    lines-left-on xs n g =
+    lines-left-on xs s g =
         rw (
-          not-end n x g,
+          not-end s x g,
           literal-more t x xs,
           ended-append f line (stepChars t x) (literalChars t xs),
           start-append f line (stepChars t x) (literalChars t xs),
         ) (append-assoc (endedLines f line (stepChars t x)) _ _)
-      where
-        not-end : (n : ℕ) (x : Step) {a : State} → onward n x ≡ Onward.To a → isEnd x ≡ false
-        not-end n Step.End e = cc
-        not-end n (Step.Stop p) e = cc
-        not-end n (Step.Literal r) e = refl
-        not-end n (Step.Placeholder p) e = refl
 
     -- those of the last step, and the last line
     pub lines-left-over : linesLeft t f line (x ∷ []) ≡ endedLines f line (stepChars t x) ++ lastOf f (lineStart f line (stepChars t x)) x
@@ -161,20 +157,20 @@ module _ (t : List ℕ) (f : Frame) where
     module _ (s : State) {x : Step} (e : x ≡ stepAt t f m s) (k : ℕ) (some : 0 < k) where
       -- a step's argument places, and then the others
       pub places-some : gather (placesOf t f) (stepsFrom k t f m s) ≡
-          placesOf t f x ++ gather (placesOf t f) (follow (stepsFrom (k - 1) t f m) (onward (s .next) x))
+          placesOf t f x ++ gather (placesOf t f) (follow (stepsFrom (k - 1) t f m) (onward s x))
       unfolding gather
       places-some = rw (steps-some t f m s e k some)
 
       -- a step's lines, and then the others
       pub lines-some : (line : SnippetPlace) → linesLeft t f line (stepsFrom k t f m s) ≡
-          endedLines f line (stepChars t x) ++ linesAfter (k - 1) (lineStart f line (stepChars t x)) x (onward (s .next) x)
-      lines-some line = go (onward (s .next) x) refl
+          endedLines f line (stepChars t x) ++ linesAfter (k - 1) (lineStart f line (stepChars t x)) x (onward s x)
+      lines-some line = go (onward s x) refl
         where
-          go : (o : Onward) → onward (s .next) x ≡ o → linesLeft t f line (stepsFrom k t f m s) ≡
+          go : (o : Onward) → onward s x ≡ o → linesLeft t f line (stepsFrom k t f m s) ≡
               endedLines f line (stepChars t x) ++ linesAfter (k - 1) (lineStart f line (stepChars t x)) x o
           go Onward.Over g = ap (linesLeft t f line) (steps-over t f m s e k some g) ∙ lines-left-over line x
           go (Onward.To a) g =
-              ap (linesLeft t f line) (steps-on t f m s e k some g) ∙ lines-left-on line x (stepsFrom (k - 1) t f m a) (s .next) g
+              ap (linesLeft t f line) (steps-on t f m s e k some g) ∙ lines-left-on line x (stepsFrom (k - 1) t f m a) s g
 
       module _ {old new : List ℕ} {all : List Span} (run : LineRun) (room : 2 * (0 + length all) ≤ length old)
           (g : Going old 0 all new (run .count) (linesLeft t f (run .line) (stepsFrom k t f m s))) where
@@ -182,21 +178,21 @@ module _ (t : List ℕ) (f : Frame) where
         pub step-room : 2 * (run .count + length (endedLines f (run .line) (stepChars t x))) ≤ length new
         step-room =
             going-room g (endedLines f (run .line) (stepChars t x))
-            (linesAfter (k - 1) (lineStart f (run .line) (stepChars t x)) x (onward (s .next) x)) (lines-some (run .line)) room
+            (linesAfter (k - 1) (lineStart f (run .line) (stepChars t x)) x (onward s x)) (lines-some (run .line)) room
 
         -- and when they are written, for the others
         pub step-written : {new′ : List ℕ} {on : LineRun} → LinesPut f run (stepChars t x) new new′ on →
-            Going old 0 all new′ (on .count) (linesAfter (k - 1) (on .line) x (onward (s .next) x))
+            Going old 0 all new′ (on .count) (linesAfter (k - 1) (on .line) x (onward s x))
         step-written {on = on} p =
             rw (p .line)
             (going-on g (endedLines f (run .line) (stepChars t x))
-            (linesAfter (k - 1) (lineStart f (run .line) (stepChars t x)) x (onward (s .next) x)) (lines-some (run .line)) room (p .put))
+            (linesAfter (k - 1) (lineStart f (run .line) (stepChars t x)) x (onward s x)) (lines-some (run .line)) room (p .put))
 
     -- a source literal has all lines still at its start
     pub lines-all : f .literal ≡ true → {first : SnippetPlace} → first ≡ toSnippet f (place 0) →
         lines t f m ≡ linesLeft t f first (reading t f m)
-    unfolding lines linesIn linesLeft pick toSnippet
-    lines-all e h = rw (e, h, zero-add)
+    unfolding plainLines linesLeft pick toSnippet
+    lines-all e h = lines-plain t f m ∙ rw (e, h, zero-add)
 
     pub places-all : f .literal ≡ true → places t f m ≡ gather (placesOf t f) (reading t f m)
     unfolding places pick

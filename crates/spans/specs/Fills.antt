@@ -3,8 +3,8 @@ use Prim.Native.Nat.{ℕ, _+_, _*_}
 use mathlib.Core.Path.{_≡_}
 use mathlib.Core.List.{List, [], _∷_, _++_}
 use lib.ListN.{length, take, drop}
-use Rattle.unicode.specs.Choice.{pick}
-use Rattle.unicode.specs.Chars.{Ch}
+use Rattle.utf8.specs.Choice.{pick}
+use Rattle.utf8.specs.Chars.{Ch}
 use Rattle.frame.specs.Places.{spanOf}
 use Rattle.frame.specs.declared.Frame.{Frame}
 use Rattle.frame.specs.declared.SnippetPlace.{SnippetPlace}

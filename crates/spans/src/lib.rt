@@ -1,21 +1,21 @@
 // Argument places and line spans, written into lent numbers, two for each span: start, end.
 use closing::whole::Closing;
 use frame::Frame;
+use frame::Mode;
 use frame::SnippetPlace;
 use frame::Span;
 use frame::TextPlace;
 use frame::TextRange;
-use placeholder::Mode;
 use reading::Onward;
 use reading::State;
 use reading::Step;
-use unicode::Seen;
+use utf8::Seen;
 ghost use mathlib.Core.Path.{_≡_};
 ghost use mathlib.Core.List.{[], _∷_};
 ghost use Prim.Native.Nat.{_+_, _*_, _≤_};
 ghost use lib.ListN.{length};
-ghost use Rattle.unicode.specs.Chars.{ch};
-ghost use Rattle.frame.specs.Spans.{Small};
+ghost use Rattle.utf8.specs.Chars.{ch};
+ghost use Rattle.frame.specs.Bounds.{Small};
 ghost use Rattle.reading.specs.Lines.{charsIn, cut, endedLines};
 ghost use Rattle.reading.specs.Lists.{gather, closedSpan, placesOf, missingText, places, lines};
 ghost use Rattle.reading.specs.Written.{over, pairs};
@@ -92,9 +92,9 @@ pub fn fill_places(text: &[u8], frame: Frame, mode: Mode, out: &mut [usize])
     let mut n = 0;
     let mut left = text.len() + 1;
     while 0 < left {
-        let step = reading::steps::step_at(text, frame, mode, state);
+        let step = steps::step_at(text, frame, mode, state);
         n = put_place(text, frame, step, &mut *out, n);
-        match reading::steps::go_on(state, step) {
+        match steps::go_on(state, step) {
             Onward::Over => {
                 return;
             }
@@ -113,7 +113,7 @@ fn cut_line(frame: Frame, line: SnippetPlace, code: u32, at: usize, width: usize
 {
     let start = frame::to_snippet(frame, TextPlace(at));
     if start.0 == line.0 {
-        if unicode::is_space(code) {
+        if letters::is_space(code) {
             return frame::to_snippet(frame, TextPlace(at + width));
         }
     }
@@ -158,7 +158,7 @@ fn put_part(text: &[u8], frame: Frame, part: TextRange, run: LineRun, out: &mut 
     let mut i = part.start.0;
     let mut on = run;
     while i < end {
-        match unicode::peek(text, i) {
+        match utf8::peek(text, i) {
             Seen::Char { code, width } => {
                 on = put_char(frame, on, code, i, width, &mut *out);
                 i += width;
@@ -242,9 +242,9 @@ pub fn fill_lines(text: &[u8], frame: Frame, mode: Mode, out: &mut [usize])
     };
     let mut left = text.len() + 1;
     while 0 < left {
-        let step = reading::steps::step_at(text, frame, mode, state);
+        let step = steps::step_at(text, frame, mode, state);
         run = put_step(text, frame, step, run, &mut *out);
-        match reading::steps::go_on(state, step) {
+        match steps::go_on(state, step) {
             Onward::Over => {
                 put_last(frame, step, run, out);
                 return;

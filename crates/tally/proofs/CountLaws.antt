@@ -7,17 +7,19 @@ use mathlib.Core.List.{List, [], _∷_, append-nil}
 use native.Mathlib.Nat.{add-zero, zero-add, add-assoc}
 use native.Mathlib.Omega.{arith}
 use lib.ListN.{length, length-append}
-use Rattle.unicode.specs.Choice.{pick}
+use Rattle.utf8.specs.Choice.{pick}
 use Rattle.frame.specs.declared.Frame.{Frame}
-use Rattle.placeholder.specs.declared.Mode.{Mode}
+use Rattle.frame.specs.declared.Mode.{Mode}
 use Rattle.closing.specs.declared.whole.Closing.{Closing}
 use Rattle.reading.specs.Steps.{stepAt, onward, stepsFrom, reading}
-use Rattle.reading.specs.StepLaws.{steps-more, steps-over, steps-none, step-next}
+use Rattle.laws.specs.StepLaws.{steps-more, steps-over, steps-none, not-end}
 use Rattle.reading.specs.Faults.{faultsOf}
 use Rattle.reading.specs.Lines.{charsIn, newlines}
-use Rattle.reading.specs.LineLaws.{by-test, newlines-append}
-use Rattle.reading.specs.Lists.{gather, piecesOf, pieces, faults, closedSpan, placesOf, places, missingText, textsOf, literalChars, isEnd, toTheEnd, linesIn, lines, countsOf, pieceCount, closedCount, placeCount, closingLines, lineCount, stepCounts, sum, Countable}
-use Rattle.reading.specs.ListLaws.{gather-one, errors-length, literal-more, lines-length}
+use Rattle.laws.specs.LineLaws.{by-test, newlines-append}
+use Rattle.reading.specs.Lists.{gather, piecesOf, pieces, faults, closedSpan, placesOf, places, missingText, textsOf, literalChars, isEnd, toTheEnd, lines, countsOf}
+use Rattle.laws.specs.Counting.{pieceCount, closedCount, placeCount, closingLines, lineCount, stepCounts, sum, Countable}
+use Rattle.laws.specs.ListLaws.{gather-one, errors-length, literal-more, plainLines, lines-length}
+use Rattle.laws.specs.OrderLaws.{lines-plain}
 use Rattle.reading.specs.declared.State.{State}
 use Rattle.reading.specs.declared.Step.{Step}
 use Rattle.reading.specs.declared.Onward.{Onward}
@@ -103,13 +105,6 @@ lines-more t x xs e =
     let here = rw e at (step-lines t x) in
     rw (e, literal-more, newlines-append) (omega (arith, here))
 
--- a step after which reading goes on is not the end
-not-end : (n : ℕ) (x : Step) {s : State} → onward n x ≡ Onward.To s → isEnd x ≡ false
-not-end n Step.End e = let z : _≡_ {A = ℕ} 0 1 = cc in absurd (omega arith)
-not-end n (Step.Stop p) e = refl
-not-end n (Step.Literal r) e = refl
-not-end n (Step.Placeholder p) e = refl
-
 module _ (t : List ℕ) (f : Frame) (x : Step) where
   -- one step
   counts-one : countsIn t f (x ∷ []) ≡ stepCounts t f x
@@ -122,28 +117,29 @@ module _ (t : List ℕ) (f : Frame) (x : Step) where
       (ap (λ (n : ℕ). pick (f .literal) n 0) (lines-one t x))
 
   -- a step after which reading goes on, and those that follow
-  counts-more : (n : ℕ) (xs : List Step) {s : State} → onward n x ≡ Onward.To s →
+  counts-more : (from : State) (xs : List Step) {s : State} → onward from x ≡ Onward.To s →
       countsIn t f (x ∷ xs) ≡ sum (stepCounts t f x) (countsIn t f xs)
   unfolding countsIn stepCounts gather
-  counts-more n xs e =
+  counts-more from xs e =
       same
       (length-append (piecesOf x) (gather piecesOf xs))
       (length-append (faultsOf x) (gather faultsOf xs))
       (ap (λ (k : ℕ). pick (f .literal) k 0) (rw (length-append, step-places)) ∙ pick-add (f .literal) _ _)
-      (ap (λ (k : ℕ). pick (f .literal) k 0) (lines-more t x xs (not-end n x e)) ∙ pick-add (f .literal) _ _)
+      (ap (λ (k : ℕ). pick (f .literal) k 0) (lines-more t x xs (not-end from x e)) ∙ pick-add (f .literal) _ _)
 
 -- a whole reading
 pub counts-all : (t : List ℕ) (f : Frame) (m : Mode) → countsIn t f (reading t f m) ≡ countsOf t f m
-unfolding countsIn countsOf pieces faults places lines pick
+unfolding countsIn countsOf pieces faults places pick
 counts-all t f m =
     let xs = reading t f m in
     let spans = gather (placesOf t f) xs in
     let cs = literalChars t xs in
-    let all = linesIn f cs (toTheEnd xs) in
+    let all = plainLines f cs (toTheEnd xs) in
     let count = newlines cs + pick (toTheEnd xs) 1 0 in
     same refl (sym (errors-length t f m))
     (by-test (λ b. pick b (length spans) 0 ≡ length (pick b spans [])) refl refl (f .literal))
-    (by-test (λ b. pick b count 0 ≡ length (pick b all [])) (sym (lines-length f cs (toTheEnd xs))) refl (f .literal))
+    (by-test (λ b. pick b count 0 ≡ length (pick b all [])) (sym (lines-length f cs (toTheEnd xs))) refl (f .literal)
+    ∙ ap length (sym (lines-plain t f m)))
 
 -- a step has one piece at most
 pub piece-few : (x : Step) → pieceCount x ≤ 1
@@ -169,25 +165,20 @@ countable-sum {r = r} x y e l = subst (Countable r) (sym e) (omega arith)
 
 -- a turn of the tally, from a state with turns left: the step x there comes to b, and with the counts a before it to c
 module _ (t : List ℕ) (f : Frame) (m : Mode) (k : ℕ) (s : State) (a : Counts) {x : Step} {o : Onward} {b c : Counts} (h : 0 < k)
-    (step : x ≡ stepAt t f m s) (on : o ≡ onward (s .next) x) (count : b ≡ stepCounts t f x) (add : c ≡ sum a b) where
+    (step : x ≡ stepAt t f m s) (on : o ≡ onward s x) (count : b ≡ stepCounts t f x) (add : c ≡ sum a b) where
   -- where reading goes on, what it all comes to stays
   pub turn-more : {s′ : State} → o ≡ Onward.To s′ →
       sum c (countsIn t f (stepsFrom (k - 1) t f m s′)) ≡ sum a (countsIn t f (stepsFrom k t f m s))
   turn-more {s′} g =
-      let w : onward (s .next) (stepAt t f m s) ≡ Onward.To s′ = cc in
-      rw (add, count, sum-assoc, steps-more t f m k s h w, ← step, counts-more t f x (s .next) _ (sym on ∙ g))
+      let w : onward s (stepAt t f m s) ≡ Onward.To s′ = cc in
+      rw (add, count, sum-assoc, steps-more t f m k s h w, ← step, counts-more t f x s _ (sym on ∙ g))
 
   -- where it is over, it is c
   pub turn-over : o ≡ Onward.Over → c ≡ sum a (countsIn t f (stepsFrom k t f m s))
   turn-over g =
-      let w : onward (s .next) (stepAt t f m s) ≡ Onward.Over = cc in
+      let w : onward s (stepAt t f m s) ≡ Onward.Over = cc in
       rw (steps-over t f m k s h w, ← step, counts-one t f x, ← count) add
 
 -- with no turn left it is a
 pub turn-none : (t : List ℕ) (f : Frame) (m : Mode) (k : ℕ) (s : State) (a : Counts) → k ≤ 0 → a ≡ sum a (countsIn t f (stepsFrom k t f m s))
 turn-none t f m k s a h = rw (steps-none t f m k s h, counts-none t f) (sym (sum-nothing a))
-
--- and the next argument's number moves by four at most
-pub turn-next : (t : List ℕ) (f : Frame) (m : Mode) (s : State) {s′ : State} {x : Step} {o : Onward} →
-    x ≡ stepAt t f m s → o ≡ onward (s .next) x → o ≡ Onward.To s′ → s′ .next ≤ s .next + 4
-turn-next t f m s {s′} step on g = let w : onward (s .next) (stepAt t f m s) ≡ Onward.To s′ = cc in step-next t f m s w

@@ -1,26 +1,29 @@
 // How many records each list of a reading needs.
+use closing::recover::Gap;
+use closing::recover::Hint;
 use closing::recover::Recovery;
 use closing::whole::Closing;
 use closing::whole::PlaceholderRead;
 use frame::Frame;
+use frame::Mode;
 use frame::TextPlace;
 use frame::TextRange;
-use placeholder::ArgumentFaults;
-use placeholder::Mode;
+use placeholder::ArgumentFlaws;
 use reading::Counts;
 use reading::Onward;
 use reading::State;
 use reading::Step;
-use scan::Fault;
-use unicode::Seen;
+use scan::Flaw;
+use utf8::Seen;
 ghost use mathlib.Core.Path.{_≡_};
 ghost use mathlib.Core.List.{[], _∷_};
 ghost use Prim.Native.Nat.{_+_, _≤_, _<_};
 ghost use lib.ListN.{length};
-ghost use Rattle.frame.specs.Spans.{Small};
-ghost use Rattle.reading.specs.Faults.{argumentSlots, missingSlots, closingSlots, wrong, faultsOf};
+ghost use Rattle.frame.specs.Bounds.{Small};
+ghost use Rattle.reading.specs.Faults.{flawFault, hintFault, argumentSlots, missingSlots, closingSlots, wrong, faultsOf};
 ghost use Rattle.reading.specs.Lines.{charsIn, newlines};
-ghost use Rattle.reading.specs.Lists.{Countable, sum, countsOf, pieceCount, placeCount, closingLines, lineCount, stepCounts};
+ghost use Rattle.reading.specs.Lists.{countsOf};
+ghost use Rattle.laws.specs.Counting.{Countable, sum, pieceCount, placeCount, closingLines, lineCount, stepCounts};
 
 // How many newlines stand in a part of the text.
 fn newlines_in(text: &[u8], part: TextRange) -> usize
@@ -30,7 +33,7 @@ fn newlines_in(text: &[u8], part: TextRange) -> usize
     let mut i = part.start.0;
     let mut n = 0;
     while i < end {
-        match unicode::peek(text, i) {
+        match utf8::peek(text, i) {
             Seen::Char { code, width } => {
                 if code == 0x0A {
                     n += 1;
@@ -105,45 +108,61 @@ fn line_count(text: &[u8], step: Step) -> usize
     }
 }
 
-// 1 where something is wrong, else 0.
-fn one(fault: Fault) -> usize
-    ensures { λ r. ⌜ (r ≡ length (wrong (fault ∷ []))) × (r ≤ 1) ⌝ }
+// 1 where a leaf found something, else 0.
+fn flaw_count(flaw: Flaw) -> usize
+    ensures { λ r. ⌜ (r ≡ length (wrong (flawFault flaw ∷ []))) × (r ≤ 1) ⌝ }
 {
-    if closing::recover::is_clean(fault) {
-        0
-    } else {
-        1
+    match flaw {
+        Flaw::Clean => 0,
+        Flaw::RawName(_) => 1,
+        Flaw::AfterDebug(_) => 1,
+        Flaw::Underscore(_) => 1,
+        Flaw::TooLarge(_) => 1,
     }
 }
 
-// How many faults an argument has.
-fn argument_count(faults: ArgumentFaults) -> usize
-    ensures { λ r. ⌜ (r ≡ length (wrong (argumentSlots faults))) × (r ≤ 5) ⌝ }
+// 1 where something is said, else 0.
+fn hint_count(brace: TextPlace, hint: Hint) -> usize
+    ensures { λ r. ⌜ (r ≡ length (wrong (hintFault brace hint ∷ []))) × (r ≤ 1) ⌝ }
 {
-    let place = faults.place;
-    let raw = faults.raw;
-    let width = faults.width;
-    let precision = faults.precision;
-    let kind = faults.kind;
-    one(place) + one(raw) + one(width) + one(precision) + one(kind)
+    if closing::recover::is_silent(hint) {
+        return 0;
+    }
+    1
 }
 
-// How many faults there are where a closing brace is missing.
-fn missing_count(missing: Fault, on: Recovery) -> usize
-    ensures { λ r. ⌜ (r ≡ length (wrong (missingSlots missing on))) × (r ≤ 8) ⌝ }
+// How many flaws an argument has.
+fn argument_count(flaws: ArgumentFlaws) -> usize
+    ensures { λ r. ⌜ (r ≡ length (wrong (argumentSlots flaws))) × (r ≤ 5) ⌝ }
+{
+    let place = flaws.place;
+    let raw = flaws.raw;
+    let width = flaws.width;
+    let precision = flaws.precision;
+    let typetext = flaws.typetext;
+    flaw_count(place)
+        + flaw_count(raw)
+        + flaw_count(width)
+        + flaw_count(precision)
+        + flaw_count(typetext)
+}
+
+// How many faults there are where a closing brace is missing: that it is counts for one.
+fn missing_count(brace: TextPlace, gap: Gap, on: Recovery) -> usize
+    ensures { λ r. ⌜ (r ≡ length (wrong (missingSlots brace gap on))) × (r ≤ 8) ⌝ }
 {
     let word = on.word;
     let hint = on.hint;
-    one(missing) + one(word) + argument_count(on.field) + one(hint)
+    1 + flaw_count(word) + argument_count(on.field) + hint_count(brace, hint)
 }
 
 // How many faults there are at a placeholder's end.
-fn closing_count(closing: Closing) -> usize
-    ensures { λ r. ⌜ (r ≡ length (wrong (closingSlots closing))) × (r ≤ 8) ⌝ }
+fn closing_count(brace: TextPlace, closing: Closing) -> usize
+    ensures { λ r. ⌜ (r ≡ length (wrong (closingSlots brace closing))) × (r ≤ 8) ⌝ }
 {
     match closing {
         Closing::Closed(_) => 0,
-        Closing::Missing(missing, on) => missing_count(missing, on),
+        Closing::Missing(gap, on) => missing_count(brace, gap, on),
     }
 }
 
@@ -151,8 +170,9 @@ fn closing_count(closing: Closing) -> usize
 fn placeholder_count(read: PlaceholderRead) -> usize
     ensures { λ r. ⌜ (r ≡ length (faultsOf (Step.Placeholder read))) × (r ≤ 13) ⌝ }
 {
+    let brace = read.argument.range.start;
     let closing = read.closing;
-    argument_count(read.faults) + closing_count(closing)
+    argument_count(read.flaws) + closing_count(brace, closing)
 }
 
 // How many faults a step has.
@@ -220,9 +240,9 @@ pub fn tally(text: &[u8], frame: Frame, mode: Mode) -> Counts
     };
     let mut left = text.len() + 1;
     while 0 < left {
-        let step = reading::steps::step_at(text, frame, mode, state);
+        let step = steps::step_at(text, frame, mode, state);
         counts = add(counts, step_counts(text, frame, step));
-        match reading::steps::go_on(state, step) {
+        match steps::go_on(state, step) {
             Onward::Over => {
                 return counts;
             }

@@ -1,82 +1,46 @@
 -- What one step does to the pieces and the faults that are left at a cursor. Rests on Turns, TurnLaws and reading's WalkLaws.
-use Prim.Native.Nat.{ℕ, zero, suc, _+_, _-_, _≤_, _<_}
+use Prim.Native.Nat.{ℕ, _+_, _-_, _≤_, _<_}
 use mathlib.Core.Path.{_≡_, refl}
-use mathlib.Core.Bool.{true, false, true≢false}
-use mathlib.Core.List.{List, [], _∷_, _++_}
+use mathlib.Core.Bool.{false}
+use mathlib.Core.List.{List, [], _∷_}
 use native.Mathlib.Nat.{le-trans}
 use native.Mathlib.Omega.{arith}
-use native.Mathlib.Numerals.{add-one}
 use lib.ListN.{length, drop, getD, drop-of-length-le}
-use Rattle.unicode.specs.Choice.{pick}
+use Rattle.utf8.specs.Choice.{pick}
 use Rattle.frame.specs.declared.Frame.{Frame}
-use Rattle.scan.specs.declared.Fault.{Fault}
-use Rattle.closing.specs.Recovery.{isClean}
-use Rattle.placeholder.specs.declared.Mode.{Mode}
-use Rattle.closing.specs.declared.whole.Closing.{Closing}
+use Rattle.reading.specs.declared.Fault.{Fault}
+use Rattle.frame.specs.declared.Mode.{Mode}
 use Rattle.reading.specs.Steps.{stepAt, onward}
-use Rattle.reading.specs.StepLaws.{steps-none}
-use Rattle.reading.specs.Faults.{argumentSlots, missingSlots, closingSlots, stepSlots, wrong}
+use Rattle.laws.specs.StepLaws.{steps-none}
+use Rattle.reading.specs.Faults.{stepSlots, wrong}
+use Rattle.laws.specs.FaultLaws.{wrong-slot, slots-few}
 use Rattle.reading.specs.Lists.{gather, piecesOf}
 use Rattle.reading.specs.declared.State.{State}
 use Rattle.reading.specs.declared.Step.{Step}
 use Rattle.reading.specs.declared.Onward.{Onward}
-use Rattle.turns.specs.Turns.{Fresh, pieceOf, piecesAt, faultsAt, notes, FaultNext, FirstWrong}
+use Rattle.turns.specs.Turns.{Fresh, pieceOf, piecesAt, faultsAt, notes, FaultNext}
+use Rattle.faults.specs.Slots.{FirstWrong}
 use Rattle.turns.specs.TurnLaws.{faults-first}
 use Rattle.turns.specs.declared.Cursor.{Cursor}
 use Rattle.turns.specs.declared.FaultTurn.{FaultTurn}
-use Rattle.reading.specs.WalkLaws.{step-next, steps-some, steps-on, steps-over}
+use Rattle.laws.specs.WalkLaws.{kept-on, steps-some, steps-on, steps-over}
 
 abbrev pub cursorOf : State → ℕ → Cursor
 cursorOf s k = record { state = s; left = k }
 
 -- a step after which reading is over has no piece
-over-piece : (n : ℕ) (x : Step) → onward n x ≡ Onward.Over → piecesOf x ≡ []
-over-piece n Step.End e = refl
-over-piece n (Step.Stop p) e = refl
-over-piece n (Step.Literal r) e = cc
-over-piece n (Step.Placeholder p) e = cc
+over-piece : (s : State) (x : Step) → onward s x ≡ Onward.Over → piecesOf x ≡ []
+over-piece s Step.End e = refl
+over-piece s (Step.Stop p) e = refl
+over-piece s (Step.Literal r) e = cc
+over-piece s (Step.Placeholder p) e = cc
 
 -- a step after which reading goes on has one
-on-piece : (n : ℕ) (x : Step) {a : State} → onward n x ≡ Onward.To a → piecesOf x ≡ pieceOf x ∷ []
-on-piece n Step.End e = cc
-on-piece n (Step.Stop p) e = cc
-on-piece n (Step.Literal r) e = refl
-on-piece n (Step.Placeholder p) e = refl
-
--- a clean slot is passed
-pub clean-slot : (xs : List Fault) (k : ℕ) → isClean (getD xs k Fault.Clean) ≡ true → wrong (drop k xs) ≡ wrong (drop (k + 1) xs)
-unfolding wrong pick
-clean-slot xs k e = rw add-one (go xs k e)
-  where
-    go : (xs : List Fault) (k : ℕ) → isClean (getD xs k Fault.Clean) ≡ true → wrong (drop k xs) ≡ wrong (drop (suc k) xs)
-    go [] zero e = refl
-    go [] (suc k) e = refl
-    go (x ∷ xs) zero e = rw e
-    go (x ∷ xs) (suc k) e = go xs k e
-
--- one that is not is a fault
-wrong-slot : (xs : List Fault) (k : ℕ) → isClean (getD xs k Fault.Clean) ≡ false →
-    wrong (drop k xs) ≡ getD xs k Fault.Clean ∷ wrong (drop (k + 1) xs)
-unfolding wrong pick
-wrong-slot xs k e = rw add-one (go xs k e)
-  where
-    go : (xs : List Fault) (k : ℕ) → isClean (getD xs k Fault.Clean) ≡ false →
-        wrong (drop k xs) ≡ getD xs k Fault.Clean ∷ wrong (drop (suc k) xs)
-    go [] k e = absurd (true≢false e)
-    go (x ∷ xs) zero e = rw e
-    go (x ∷ xs) (suc k) e = go xs k e
-
--- a step has at most thirteen slots
-slots-few : (x : Step) → length (stepSlots x) ≤ 13
-unfolding stepSlots argumentSlots closingSlots missingSlots
-slots-few Step.End = omega arith
-slots-few (Step.Stop p) = omega arith
-slots-few (Step.Literal r) = omega arith
-slots-few (Step.Placeholder p) = go (p .closing)
-  where
-    go : (x : Closing) → length (argumentSlots (p .faults) ++ closingSlots x) ≤ 13
-    go (Closing.Closed e) = omega arith
-    go (Closing.Missing x on) = omega arith
+on-piece : (s : State) (x : Step) {a : State} → onward s x ≡ Onward.To a → piecesOf x ≡ pieceOf x ∷ []
+on-piece s Step.End e = cc
+on-piece s (Step.Stop p) e = cc
+on-piece s (Step.Literal r) e = refl
+on-piece s (Step.Placeholder p) e = refl
 
 module _ (t : List ℕ) (f : Frame) (m : Mode) (c : Cursor) where
   -- where no step is left, nothing is
@@ -90,21 +54,19 @@ module _ (t : List ℕ) (f : Frame) (m : Mode) (c : Cursor) where
 
   module _ (some : 0 < c .left) {x : Step} (e : x ≡ stepAt t f m (c .state)) where
     -- the last step has no piece
-    pub pieces-over : onward (c .state .next) x ≡ Onward.Over → piecesAt t f m c ≡ []
+    pub pieces-over : onward (c .state) x ≡ Onward.Over → piecesAt t f m c ≡ []
     unfolding piecesAt gather
     pieces-over g = rw (steps-over t f m (c .state) e (c .left) some g, over-piece _ x g)
 
     -- each other step has one, and then come those after it
-    pub pieces-on : {a : State} → onward (c .state .next) x ≡ Onward.To a →
+    pub pieces-on : {a : State} → onward (c .state) x ≡ Onward.To a →
         piecesAt t f m c ≡ pieceOf x ∷ piecesAt t f m (cursorOf a (c .left - 1))
     unfolding piecesAt gather
     pieces-on g = rw (steps-on t f m (c .state) e (c .left) some g, on-piece _ x g)
 
     -- a run's cursor after a step is one that it has
-    pub fresh-on : {a : State} → onward (c .state .next) x ≡ Onward.To a → Fresh c → Fresh (cursorOf a (c .left - 1))
-    fresh-on g h =
-        let b = step-next t f m (c .state) e g in
-        record { next = omega (arith, h .next); left = omega (arith, h .left) }
+    pub fresh-on : {a : State} → onward (c .state) x ≡ Onward.To a → Fresh c → Fresh (cursorOf a (c .left - 1))
+    fresh-on g h = kept-on t f m (c .state) e (c .left) some g h
 
     module _ (slot k : ℕ) (w : FirstWrong x slot k) where
       -- a slot that is not clean gives the next fault
@@ -114,13 +76,13 @@ module _ (t : List ℕ) (f : Frame) (m : Mode) (c : Cursor) where
           rw (steps-some t f m (c .state) e (c .left) some, w .skipped, wrong-slot (stepSlots x) k (w .found h))
 
       -- the last step has no further fault
-      pub faults-over : 13 ≤ k → onward (c .state .next) x ≡ Onward.Over → faultsAt t f m c slot ≡ []
+      pub faults-over : 13 ≤ k → onward (c .state) x ≡ Onward.Over → faultsAt t f m c slot ≡ []
       unfolding faultsAt gather wrong
       faults-over h g =
           rw (steps-over t f m (c .state) e (c .left) some g, w .skipped, drop-of-length-le (stepSlots x) (le-trans (slots-few x) h))
 
       -- past the last slot come the faults of the next step
-      pub faults-on : {a : State} → 13 ≤ k → onward (c .state .next) x ≡ Onward.To a →
+      pub faults-on : {a : State} → 13 ≤ k → onward (c .state) x ≡ Onward.To a →
           faultsAt t f m c slot ≡ faultsAt t f m (cursorOf a (c .left - 1)) 0
       unfolding faultsAt wrong
       faults-on h g =

@@ -6,17 +6,18 @@ use mathlib.Core.Bool.{Bool, true, false}
 use mathlib.Core.List.{List, [], _∷_, _++_, append-assoc, append-nil}
 use native.Mathlib.Omega.{arith}
 use lib.ListN.{length, length-append}
-use Rattle.unicode.specs.Choice.{pick}
-use Rattle.unicode.specs.ChoiceLaws.{pick-elim}
+use Rattle.utf8.specs.Choice.{pick}
+use Rattle.utf8.specs.ChoiceLaws.{pick-elim}
 use Rattle.frame.specs.declared.Frame.{Frame}
-use Rattle.scan.specs.declared.Fault.{Fault}
-use Rattle.placeholder.specs.declared.Mode.{Mode}
+use Rattle.reading.specs.declared.Fault.{Fault}
+use Rattle.frame.specs.declared.Mode.{Mode}
 use Rattle.reading.specs.Steps.{reading}
 use Rattle.reading.specs.Faults.{faultsOf}
 use Rattle.reading.specs.Records.{isFront, recordOf}
 use Rattle.reading.specs.Lists.{gather, pieces, faults, errors, frontOnly, backOnly, reversed, listed, records}
 use Rattle.reading.specs.declared.Step.{Step}
 use Rattle.reading.specs.declared.ErrorRecord.{ErrorRecord}
+use Rattle.laws.specs.WalkLaws.{kept-start}
 use Rattle.turns.specs.Turns.{Fresh, firstCursor, stepsAt, piecesAt, faultsIn, faultsAt, Note, notes, posted}
 
 -- from its first slot on, a step has all its faults
@@ -38,7 +39,7 @@ module _ (t : List ℕ) (f : Frame) (m : Mode) where
 
 -- the first cursor of a text within the limit is one that a run has
 pub fresh-first : (t : List ℕ) → length t ≤ 65535 → Fresh (firstCursor t)
-fresh-first t h = record { next = omega arith; left = omega arith }
+fresh-first t h = kept-start t h
 
 module _ (t : List ℕ) (f : Frame) where
   -- records of one list after another

@@ -1,15 +1,14 @@
 -- A run over the steps of a text, a piece or a fault at a time: what is left to come at a cursor.
-use Prim.Native.Nat.{ℕ, _+_, _*_, _≤_, _<_}
+use Prim.Native.Nat.{ℕ, _+_, _*_, _≤_}
 use mathlib.Core.Path.{_≡_}
-use mathlib.Core.Bool.{Bool, false}
+use mathlib.Core.Bool.{Bool}
 use mathlib.Core.List.{List, [], _∷_, _++_}
-use lib.ListN.{length, drop, getD}
-use Rattle.unicode.specs.Choice.{pick}
+use lib.ListN.{length, drop}
+use Rattle.utf8.specs.Choice.{pick}
 use Rattle.frame.specs.Places.{place, rangeOf}
 use Rattle.frame.specs.declared.Frame.{Frame}
-use Rattle.scan.specs.declared.Fault.{Fault}
-use Rattle.closing.specs.Recovery.{isClean}
-use Rattle.placeholder.specs.declared.Mode.{Mode}
+use Rattle.reading.specs.declared.Fault.{Fault}
+use Rattle.frame.specs.declared.Mode.{Mode}
 use Rattle.reading.specs.Steps.{start, stepsFrom}
 use Rattle.reading.specs.Faults.{stepSlots, wrong, faultsOf}
 use Rattle.reading.specs.Records.{isFront, recordOf}
@@ -17,6 +16,7 @@ use Rattle.reading.specs.Lists.{gather, piecesOf}
 use Rattle.reading.specs.declared.Step.{Step}
 use Rattle.reading.specs.declared.Piece.{Piece}
 use Rattle.reading.specs.declared.ErrorRecord.{ErrorRecord}
+use Rattle.laws.specs.WalkLaws.{Kept}
 use Rattle.turns.specs.declared.Cursor.{Cursor}
 use Rattle.turns.specs.declared.PieceTurn.{PieceTurn}
 use Rattle.turns.specs.declared.FaultTurn.{FaultTurn}
@@ -25,10 +25,9 @@ use Rattle.turns.specs.declared.FaultTurn.{FaultTurn}
 abbrev pub firstCursor : List ℕ → Cursor
 firstCursor t = record { state = start; left = length t + 1 }
 
--- a cursor that a run has: the next argument's number is at most four for each step taken
-pub record Fresh (c : Cursor) : Type 0 where
-  pub next : c .state .next + 4 * c .left ≤ 0x40000
-  pub left : c .left ≤ 0x10000
+-- a cursor that a run has
+abbrev pub Fresh : Cursor → Type 0
+Fresh c = Kept (c .left) (c .state)
 
 -- the steps from a cursor on
 abbrev pub stepsAt : List ℕ → Frame → Mode → Cursor → List Step
@@ -93,10 +92,3 @@ pub record FaultNext (t : List ℕ) (f : Frame) (m : Mode) (c : Cursor) (slot : 
 unfoldable pub posted : List ErrorRecord → List Note → List ErrorRecord
 posted es [] = es
 posted es (x ∷ xs) = posted (pick (x .front) (x .entry ∷ es) (es ++ (x .entry ∷ []))) xs
-
--- the first slot of a step from one on that is not clean, or 13
-pub record FirstWrong (s : Step) (slot k : ℕ) : Type 0 where
-  pub from : slot ≤ k
-  pub most : k ≤ 13
-  pub skipped : wrong (drop slot (stepSlots s)) ≡ wrong (drop k (stepSlots s))
-  pub found : k < 13 → isClean (getD (stepSlots s) k Fault.Clean) ≡ false

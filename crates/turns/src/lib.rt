@@ -1,20 +1,20 @@
 // The next piece and the next error record of a run over the steps, by value.
 use frame::Frame;
+use frame::Mode;
 use frame::TextPlace;
 use frame::TextRange;
-use placeholder::Mode;
 use reading::ErrorRecord;
+use reading::Fault;
 use reading::Onward;
 use reading::Piece;
 use reading::State;
 use reading::Step;
-use scan::Fault;
 ghost use mathlib.Core.Path.{_≡_};
 ghost use Prim.Native.Nat.{_≤_};
 ghost use mathlib.Core.Bool.{false};
 ghost use lib.ListN.{length};
-ghost use Rattle.frame.specs.Spans.{Small};
-ghost use Rattle.turns.specs.Turns.{Fresh, firstCursor, pieceOf, PieceNext, FirstWrong, FaultNext};
+ghost use Rattle.frame.specs.Bounds.{Small};
+ghost use Rattle.turns.specs.Turns.{Fresh, firstCursor, pieceOf, PieceNext, FaultNext};
 
 // Where a run over the steps stands, and how many steps it may still take.
 pub struct Cursor {
@@ -87,9 +87,9 @@ pub fn next_piece(text: &[u8], frame: Frame, mode: Mode, cursor: Cursor) -> Piec
             cursor,
         };
     }
-    let step = reading::steps::step_at(text, frame, mode, state);
+    let step = steps::step_at(text, frame, mode, state);
     let piece = piece_of(step);
-    match reading::steps::go_on(state, step) {
+    match steps::go_on(state, step) {
         Onward::Over => PieceTurn {
             more: false,
             piece,
@@ -106,22 +106,6 @@ pub fn next_piece(text: &[u8], frame: Frame, mode: Mode, cursor: Cursor) -> Piec
     }
 }
 
-// The first slot of a step from `slot` on that is not clean, or 13.
-fn first_wrong(step: Step, slot: usize) -> usize
-    requires { ⌜ slot ≤ 13 ⌝ }
-    ensures { λ r. ⌜ FirstWrong step slot r ⌝ }
-{
-    let mut k = slot;
-    while k < 13 {
-        let fault = faults::fault_at(step, k);
-        if !closing::recover::is_clean(fault) {
-            return k;
-        }
-        k += 1;
-    }
-    k
-}
-
 // The next fault's record, from a slot of the step at the cursor on.
 pub fn next_fault(text: &[u8], frame: Frame, mode: Mode, cursor: Cursor, slot: usize) -> FaultTurn
     requires { ⌜ Small (now text) frame × Fresh cursor × (slot ≤ 13) ⌝ }
@@ -131,8 +115,8 @@ pub fn next_fault(text: &[u8], frame: Frame, mode: Mode, cursor: Cursor, slot: u
     let mut from = slot;
     while 0 < on.left {
         let state = on.state;
-        let step = reading::steps::step_at(text, frame, mode, state);
-        let k = first_wrong(step, from);
+        let step = steps::step_at(text, frame, mode, state);
+        let k = faults::first_wrong(step, from);
         if k < 13 {
             let fault = faults::fault_at(step, k);
             let record = faults::record_of(text, frame, fault);
@@ -144,7 +128,7 @@ pub fn next_fault(text: &[u8], frame: Frame, mode: Mode, cursor: Cursor, slot: u
                 slot: k + 1,
             };
         }
-        match reading::steps::go_on(state, step) {
+        match steps::go_on(state, step) {
             Onward::Over => {
                 return no_fault(text, frame, on);
             }

@@ -52,8 +52,8 @@ module _ (l : List ℕ) (k : ℕ) where
         → l₄ ≡ laid l₃ (k + 12) (four (alignOf (x .spec .align)) (signOf (x .spec .sign)) (bitOf (x .spec .alternate)) (bitOf (x .spec .zero)))
         → l₅ ≡ laid l₄ (k + 16) (countWords (x .spec .width) (x .spec .widthspan))
         → l₆ ≡ laid l₅ (k + 24) (countWords (x .spec .precision) (x .spec .precisionspan))
-        → l₇ ≡ laid l₆ (k + 32) (four (lowOf (x .spec .kind .start .0)) (lowOf (x .spec .kind .end .0)) (hexOf (x .spec .hex)) 0)
-        → l₈ ≡ laid l₇ (k + 36) (spanWords 0 (x .spec .kindspan))
+        → l₇ ≡ laid l₆ (k + 32) (four (lowOf (x .spec .typetext .start .0)) (lowOf (x .spec .typetext .end .0)) (hexOf (x .spec .hex)) 0)
+        → l₈ ≡ laid l₇ (k + 36) (spanWords 0 (x .spec .typespan))
         → l₈ ≡ laid l k (argumentWords x)
     unfolding argumentWords specWords
     argument-laid w₁ w₂ w₃ w₄ w₅ w₆ w₇ w₈ =
@@ -65,7 +65,7 @@ module _ (l : List ℕ) (k : ℕ) where
         let e = laying-on (four (alignOf (s .align)) (signOf (s .sign)) (bitOf (s .alternate)) (bitOf (s .zero))) (k + 16) d w₄ (omega arith) in
         let f = laying-on (countWords (s .width) (s .widthspan)) (k + 24) e w₅ (omega (arith, countWords-length (s .width) (s .widthspan))) in
         let g = laying-on (countWords (s .precision) (s .precisionspan)) (k + 32) f w₆ (omega (arith, countWords-length (s .precision) (s .precisionspan))) in
-        let h = laying-on (four (lowOf (s .kind .start .0)) (lowOf (s .kind .end .0)) (hexOf (s .hex)) 0) (k + 36) g w₇ (omega arith) in
+        let h = laying-on (four (lowOf (s .typetext .start .0)) (lowOf (s .typetext .end .0)) (hexOf (s .hex)) 0) (k + 36) g w₇ (omega arith) in
         laying-last h w₈
 
   module _ (x : ErrorRecord) (room : k + 16 ≤ length l) {l₁ l₂ l₃ l₄ : List ℕ} where

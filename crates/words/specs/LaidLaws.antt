@@ -99,7 +99,7 @@ specWords-length s =
       spanWords-length (nameSpanEnd (s .width)) (s .widthspan),
       countData-length (s .precision),
       spanWords-length (nameSpanEnd (s .precision)) (s .precisionspan),
-      spanWords-length 0 (s .kindspan),
+      spanWords-length 0 (s .typespan),
     ))
 
 pub argumentWords-length : (a : Argument) → length (argumentWords a) ≡ 40

@@ -101,8 +101,8 @@ specWords s =
     (four (alignOf (s .align)) (signOf (s .sign)) (bitOf (s .alternate)) (bitOf (s .zero)) ++
     (countWords (s .width) (s .widthspan) ++
     (countWords (s .precision) (s .precisionspan) ++
-    (four (lowOf (s .kind .start .0)) (lowOf (s .kind .end .0)) (hexOf (s .hex)) 0 ++
-    spanWords 0 (s .kindspan)))))
+    (four (lowOf (s .typetext .start .0)) (lowOf (s .typetext .end .0)) (hexOf (s .hex)) 0 ++
+    spanWords 0 (s .typespan)))))
 
 unfoldable pub argumentWords : Argument → List ℕ
 argumentWords a = headWords 1 (a .range) (placeTag (a .place)) ++ (placeWords (a .place) (a .placespan) ++ specWords (a .spec))
@@ -114,24 +114,13 @@ zeros = none ++ (none ++ (none ++ (none ++ (none ++ none))))
 unfoldable pub literalWords : TextRange → List ℕ
 literalWords r = headWords 0 r 0 ++ (none ++ (zeros ++ (none ++ none)))
 
--- A PIECE
+-- A PIECE (R9.6)
 abbrev pub pieceWords : Piece → List ℕ
 pieceWords (Piece.Literal r) = literalWords r
 pieceWords (Piece.Placeholder a) = argumentWords a
 
--- AN ERROR RECORD
+-- AN ERROR RECORD (R9.7)
 unfoldable pub errorWords : ErrorRecord → List ℕ
 errorWords e =
     four (e .kind) (lowOf (e .span .start .0)) (lowOf (e .span .end .0)) 0 ++
     (spanWords 0 (e .second) ++ (rangeWords (e .quoted) ++ spanWords 0 (e .suggestion)))
-
--- a record of a kind and a span alone
-abbrev pub bareError : ℕ → Span → ErrorRecord
-bareError kind span =
-    record {
-      kind = kind;
-      span = span;
-      second = MaybeSpan.Absent;
-      quoted = MaybeRange.Absent;
-      suggestion = MaybeSpan.Absent;
-    }

@@ -16,7 +16,8 @@ ghost use Prim.Native.Nat.{_+_, _*_, _≤_};
 ghost use lib.ListN.{length};
 ghost use Rattle.frame.specs.Places.{place, rangeOf};
 ghost use Rattle.words.specs.Laid.{laid};
-ghost use Rattle.words.specs.Layout.{lowOf, four, bitOf, alignOf, signOf, hexOf, placeTag, placeWords, fillWords, spanWords, countData, nameSpanEnd, countWords, rangeWords, argumentWords, zeros, literalWords, errorWords, bareError};
+ghost use Rattle.words.specs.Layout.{lowOf, four, bitOf, alignOf, signOf, hexOf, placeTag, placeWords, fillWords, spanWords, countData, nameSpanEnd, countWords, rangeWords, argumentWords, zeros, literalWords, errorWords};
+ghost use Rattle.reading.specs.Records.{bareError};
 
 // A number's low 32 bits. No place, span or argument number of a reading has more.
 pub fn low(x: usize) -> u32
@@ -178,8 +179,8 @@ pub fn put_argument(out: &mut [u32], n: usize, argument: Argument)
     let widthspan = spec.widthspan;
     let precision = spec.precision;
     let precisionspan = spec.precisionspan;
-    let kind = spec.kind;
-    let kindspan = spec.kindspan;
+    let typetext = spec.typetext;
+    let typespan = spec.typespan;
     put4(
         &mut *out,
         k,
@@ -203,12 +204,12 @@ pub fn put_argument(out: &mut [u32], n: usize, argument: Argument)
     put4(
         &mut *out,
         k + 32,
-        low(kind.start.0),
-        low(kind.end.0),
+        low(typetext.start.0),
+        low(typetext.end.0),
         hex_word(hex),
         0,
     );
-    put_span(out, k + 36, 0, kindspan);
+    put_span(out, k + 36, 0, typespan);
 }
 
 // Numbers that mean nothing in a record are 0.

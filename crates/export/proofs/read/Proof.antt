@@ -3,8 +3,8 @@
 use borrow.Author.Needs.{needs}
 use mathlib.Core.Path.{refl}
 use denote.Ref.{now}
-use Rattle.answer.specs.AnswerLaws.{opened-small}
-use Rattle.export.specs.Calls.{roomsIn}
+use Rattle.answer.specs.DecisionLaws.{opened-small}
+use Rattle.words.specs.Calls.{roomsIn}
 use Rattle.export.proofs.Listing.{ample, roomy-by}
 use Rattle.export.proofs.Calling.{read-refused, read-on}
 use Rattle.export.proofs.read.Statement.{statement}

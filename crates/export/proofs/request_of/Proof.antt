@@ -1,6 +1,6 @@
 -- `export::request_of` meets its contract: the style is the definition's, and any mark but 0 is a yes.
 use borrow.Author.Needs.{needs}
-use Rattle.export.specs.Calls.{requestOf}
+use Rattle.words.specs.Calls.{requestOf}
 use Rattle.export.proofs.Listing.{yes}
 use Rattle.export.proofs.request_of.Statement.{statement}
 use Rattle.export.proofs.request_of.Tie as tie

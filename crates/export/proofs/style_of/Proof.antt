@@ -1,7 +1,7 @@
 -- `export::style_of` meets its contract: the test is the definition's.
 use borrow.Author.Tests.{eq-eqb, ne-eqb}
-use Rattle.unicode.specs.Choice.{pick}
-use Rattle.export.specs.Calls.{styleOf}
+use Rattle.utf8.specs.Choice.{pick}
+use Rattle.words.specs.Calls.{styleOf}
 use Rattle.export.proofs.style_of.Statement.{statement}
 use Rattle.export.proofs.style_of.Tie as tie
 

@@ -1,5 +1,5 @@
 -- The record is put together from its five parts, each by its own function.
-use Rattle.reading.specs.Records.{recordOf}
+use Rattle.laws.specs.RecordLaws.{record-parts}
 use Rattle.faults.proofs.record_of.Statement.{statement}
 use Rattle.faults.proofs.record_of.Tie as tie
 
@@ -7,7 +7,7 @@ span-of-requires : tie.Need-span-of-requires
 span-of-requires c κs = c .before .pre
 
 second-of-requires : tie.Need-second-of-requires
-second-of-requires c κs = tt
+second-of-requires c κs = c .before .before .pre
 
 quoted-of-requires : tie.Need-quoted-of-requires
 quoted-of-requires c κs = tt
@@ -19,9 +19,9 @@ kind-of-requires : tie.Need-kind-of-requires
 kind-of-requires c κs = tt
 
 returns : tie.Need-returns
-unfolding recordOf
 returns c =
     rw (
+      record-parts,
       ← c .before .before .before .before .span-of .ensures,
       ← c .before .before .before .second-of .ensures,
       ← c .before .before .quoted-of .ensures,

@@ -2,7 +2,7 @@
 use mathlib.Core.Path.{sym}
 use native.Mathlib.Omega.{arith}
 use Rattle.reading.specs.Faults.{stepSlots}
-use Rattle.reading.specs.FaultLaws.{stop-past}
+use Rattle.laws.specs.FaultLaws.{stop-past}
 use Rattle.faults.proofs.stop_fault.Statement.{statement}
 use Rattle.faults.proofs.stop_fault.Tie as tie
 

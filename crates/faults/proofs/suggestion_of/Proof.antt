@@ -24,8 +24,8 @@ span-across-requires-2 c κs = c .before .before .before .before .before .pre
 enum-known-fault-3 : tie.Need-enum-known-fault-3
 enum-known-fault-3 c = c .match .keys3
 
-span-across-requires-3 : tie.Need-span-across-requires-3
-span-across-requires-3 c κs = c .before .before .before .before .pre
+span-at-requires : tie.Need-span-at-requires
+span-at-requires c κs = c .before .before .before .before .pre
 
 returns : tie.Need-returns
 returns c = rw (c .before .before .before .before .fault .given .1, ← c .before .past .ensures, ← c .span-across .ensures)
@@ -34,7 +34,7 @@ returns-2 : tie.Need-returns-2
 returns-2 c = rw (c .before .before .before .fault2 .given .1, ← c .before .past2 .ensures, ← c .span-across2 .ensures)
 
 returns-3 : tie.Need-returns-3
-returns-3 c = rw (c .before .before .fault3 .given .1, ← c .span-across3 .ensures)
+returns-3 c = rw (c .before .before .fault3 .given .1, ← c .span-at .ensures)
 
 returns-4 : tie.Need-returns-4
 returns-4 c =
@@ -51,7 +51,7 @@ suggestion-of-spec =
     past-requires-2
     span-across-requires-2
     enum-known-fault-3
-    span-across-requires-3
+    span-at-requires
     returns
     returns-2
     returns-3

@@ -3,7 +3,7 @@
 use mathlib.Core.Path.{sym, _∙_}
 use native.Mathlib.Omega.{arith}
 use denote.Ref.{now}
-use Rattle.unicode.specs.Choice.{pick}
+use Rattle.utf8.specs.Choice.{pick}
 use Rattle.frame.specs.Frames.{endOf, frameOf}
 use Rattle.frame.proofs.Literal.{Told, literal-tells}
 use Rattle.frame.proofs.frame_of.Statement.{statement}

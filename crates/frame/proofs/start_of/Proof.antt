@@ -3,7 +3,7 @@ use Prim.Native.Nat.{_<_, _≤_}
 use native.Mathlib.Omega.{arith}
 use borrow.Author.Tests.{lt-ltb, le-ltb}
 use lib.ListN.{length}
-use Rattle.unicode.specs.Choice.{pick}
+use Rattle.utf8.specs.Choice.{pick}
 use Rattle.frame.specs.Spans.{startOf}
 use Rattle.frame.proofs.start_of.Statement.{statement}
 use Rattle.frame.proofs.start_of.Tie as tie

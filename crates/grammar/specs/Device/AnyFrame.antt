@@ -1,24 +1,24 @@
 -- The frame changes spans alone: part by part, what two frames give is the same but for spans. Rests on Spanless.
 use mathlib.Core.Path.{_≡_, refl, ap, sym, _∙_}
-use mathlib.Core.List.{List, [], _∷_, _++_, map, map-append}
+use mathlib.Core.List.{List, [], _∷_, map}
 use mathlib.Core.Bool.{Bool, true, false}
 use Prim.Native.Nat.{ℕ, zero, suc, _+_}
 use lib.ListN.{length}
-use Rattle.unicode.specs.Choice.{pick}
-use Rattle.unicode.specs.Utf8.{peekAt}
-use Rattle.unicode.specs.declared.Seen.{Seen}
-use Rattle.unicode.specs.declared.Seen.the-variants.{Char, End}
-use Rattle.frame.specs.Places.{place, rangeOf}
+use Rattle.utf8.specs.Choice.{pick}
+use Rattle.utf8.specs.Utf8.{peekAt}
+use Rattle.utf8.specs.declared.Seen.{Seen}
+use Rattle.utf8.specs.declared.Seen.the-variants.{Char, End}
+use Rattle.frame.specs.Places.{rangeOf}
 use Rattle.frame.specs.declared.TextPlace.{TextPlace}
 use Rattle.frame.specs.declared.Span.{Span}
 use Rattle.frame.specs.declared.Frame.{Frame}
+use Rattle.frame.specs.declared.Mode.{Mode}
 use Rattle.scan.specs.Characters.{pastAt, consumed, spacesPast}
-use Rattle.scan.specs.Ends.{spanAcross}
 use Rattle.scan.specs.Words.{numberRead}
 use Rattle.scan.specs.Counts.{nameCount, countAfter, countRead}
+use Rattle.scan.specs.declared.Consumed.{Consumed}
 use Rattle.scan.specs.declared.Count.{Count}
 use Rattle.scan.specs.declared.CountRead.{CountRead}
-use Rattle.scan.specs.declared.Fault.{Fault}
 use Rattle.scan.specs.declared.Number.{Number}
 use Rattle.placeholder.specs.Parts.{isImplied, fillSeen, fillRead, alignRead, signRead, plainWidth, widthRead, afterDot, precisionRead}
 use Rattle.placeholder.specs.Types.{wordType, typeRead}
@@ -26,33 +26,35 @@ use Rattle.placeholder.specs.Format.{formatRead}
 use Rattle.placeholder.specs.Specs.{typeOnly, diagnosticType, afterColon, specRead}
 use Rattle.placeholder.specs.Places.{placeRead}
 use Rattle.placeholder.specs.Arguments.{resolved, joined, argumentRead}
-use Rattle.closing.specs.Defaults.{noFill, noSpan, noMarks, noCounts, isDefault, isIdentifier}
-use Rattle.closing.specs.Recovery.{because, expectedSeen, expectedAt, passedTo, textTaken, signHint, isClean, fieldAfter, fieldRead, recoverRead}
-use Rattle.closing.specs.Wholes.{wholeOf, missingRead, placeholderRead}
 use Rattle.placeholder.specs.declared.Fill.{Fill}
-use Rattle.placeholder.specs.declared.Mode.{Mode}
 use Rattle.placeholder.specs.declared.Place.{Place}
 use Rattle.placeholder.specs.declared.Spec.{Spec}
 use Rattle.placeholder.specs.declared.position.PlaceRead.{PlaceRead}
 use Rattle.placeholder.specs.declared.between.ArgumentRead.{ArgumentRead}
-use Rattle.closing.specs.declared.recover.Recovery.{Recovery}
-use Rattle.closing.specs.declared.whole.Closing.{Closing}
-use Rattle.closing.specs.declared.whole.PlaceholderRead.{PlaceholderRead}
 use Rattle.placeholder.specs.declared.MaybeSpan.{MaybeSpan}
 use Rattle.placeholder.specs.declared.format.FillRead.{FillRead}
 use Rattle.placeholder.specs.declared.format.WidthRead.{WidthRead}
 use Rattle.placeholder.specs.declared.format.PrecisionRead.{PrecisionRead}
 use Rattle.placeholder.specs.declared.format.TypeRead.{TypeRead}
 use Rattle.placeholder.specs.declared.format.SpecRead.{SpecRead}
+use Rattle.closing.specs.Defaults.{noFill, noSpan, noMarks, noCounts, isDefault, isIdentifier}
+use Rattle.closing.specs.Recovery.{because, gapAt, passedTo, textTaken, fieldAfter, fieldRead, recoverRead}
+use Rattle.closing.specs.Wholes.{missingRead, placeholderRead}
+use Rattle.closing.specs.declared.recover.Hint.{Hint}
+use Rattle.closing.specs.declared.recover.Recovery.{Recovery}
+use Rattle.closing.specs.declared.whole.Closing.{Closing}
+use Rattle.closing.specs.declared.whole.PlaceholderRead.{PlaceholderRead}
 use Rattle.reading.specs.Steps.{afterOpen, stepAt, onward, follow, stepsFrom, start, reading}
-use Rattle.reading.specs.Faults.{argumentSlots, missingSlots, closingSlots, stepSlots, wrong, faultsOf}
-use Rattle.reading.specs.Records.{kindOf, isFront, quotedOf, recordOf}
-use Rattle.reading.specs.Lists.{gather, piecesOf, pieces, frontOnly, backOnly, reversed, listed, records, faults, errors}
+use Rattle.reading.specs.Faults.{stepSlots, faultsOf}
+use Rattle.reading.specs.Records.{recordOf}
+use Rattle.reading.specs.Lists.{gather, piecesOf, pieces, listed, records, faults, errors}
+use Rattle.reading.specs.declared.Fault.{Fault}
 use Rattle.reading.specs.declared.State.{State}
 use Rattle.reading.specs.declared.Step.{Step}
 use Rattle.reading.specs.declared.Onward.{Onward}
 use Rattle.reading.specs.declared.Piece.{Piece}
-use Rattle.grammar.specs.Device.Runs.{caseB}
+use Rattle.reading.specs.declared.ErrorRecord.{ErrorRecord}
+use Rattle.laws.specs.RecordLaws.{record-parts}
 use Rattle.grammar.specs.Spanless as S
 
 -- a choice by the same test
@@ -61,46 +63,35 @@ unfolding pick
 pick-same h true p q = p
 pick-same h false p q = q
 
--- FAULTS without their spans
-abbrev pub fault : Fault → Fault
-fault Fault.Clean = Fault.Clean
-fault (Fault.Unmatched p) = Fault.Unmatched p
-fault (Fault.Expected p s) = Fault.Expected p S.anywhere
-fault (Fault.Unclosed s) = Fault.Unclosed S.anywhere
-fault (Fault.RawName r) = Fault.RawName r
-fault (Fault.AfterDebug p) = Fault.AfterDebug p
-fault (Fault.Underscore r) = Fault.Underscore r
-fault (Fault.TooLarge r) = Fault.TooLarge r
-fault (Fault.DebugFirst p r) = Fault.DebugFirst p r
-fault (Fault.NoColon p) = Fault.NoColon p
-fault (Fault.Equals p s) = Fault.Equals p S.anywhere
-fault (Fault.Misplaced p) = Fault.Misplaced p
-fault (Fault.PlusFirst p) = Fault.PlusFirst p
-fault (Fault.Field a b) = Fault.Field a b
-fault (Fault.TupleIndex a b) = Fault.TupleIndex a b
-fault (Fault.Comma p s) = Fault.Comma p S.anywhere
+-- and by tests that agree
+pick-agree : {A B : Type 0} (h : A → B) (b c : Bool) → b ≡ c → {x y z w : A} → h x ≡ h z → h y ≡ h w → h (pick b x y) ≡ h (pick c z w)
+pick-agree h b c e p q = rw e (pick-same h c p q)
+
+-- what does not see what is left out is the same of things that are the same without it
+blind : {A B : Type 0} (h : A → A) (k : A → B) → ((x : A) → k x ≡ k (h x)) → (x y : A) → h x ≡ h y → k x ≡ k y
+blind h k s x y e = s x ∙ (ap k e ∙ sym (s y))
 
 -- what the parts give, without spans
 abbrev countOf : CountRead → CountRead
-countOf r = record { count = S.count (r .count); at = r .at; fault = r .fault }
+countOf r = record { count = S.count (r .count); at = r .at; flaw = r .flaw }
 
 abbrev fillOf : FillRead → FillRead
 fillOf r = record { fill = S.fill (r .fill); at = r .at }
 
 abbrev widthOf : WidthRead → WidthRead
-widthOf r = record { zero = r .zero; width = S.count (r .width); span = S.maybe (r .span); at = r .at; fault = r .fault }
+widthOf r = record { zero = r .zero; width = S.count (r .width); span = S.maybe (r .span); at = r .at; flaw = r .flaw }
 
 abbrev precisionOf : PrecisionRead → PrecisionRead
-precisionOf r = record { precision = S.count (r .precision); span = S.maybe (r .span); at = r .at; next = r .next; fault = r .fault }
+precisionOf r = record { precision = S.count (r .precision); span = S.maybe (r .span); at = r .at; next = r .next; flaw = r .flaw }
 
 abbrev typeOf : TypeRead → TypeRead
-typeOf r = record { hex = r .hex; kind = r .kind; span = S.maybe (r .span); at = r .at; fault = r .fault }
+typeOf r = record { hex = r .hex; typetext = r .typetext; span = S.maybe (r .span); at = r .at; flaw = r .flaw }
 
 abbrev specOf : SpecRead → SpecRead
-specOf r = record { spec = S.spec (r .spec); at = r .at; next = r .next; width = r .width; precision = r .precision; kind = r .kind }
+specOf r = record { spec = S.spec (r .spec); at = r .at; next = r .next; width = r .width; precision = r .precision; typetext = r .typetext }
 
 abbrev argumentOf : ArgumentRead → ArgumentRead
-argumentOf r = record { place = r .place; from = r .from; to = r .to; spec = S.spec (r .spec); at = r .at; next = r .next; faults = r .faults }
+argumentOf r = record { place = r .place; from = r .from; to = r .to; spec = S.spec (r .spec); at = r .at; next = r .next; flaws = r .flaws }
 
 -- a count is implied or not, whatever its span
 count-implied : (c : Count) → isImplied c ≡ isImplied (S.count c)
@@ -142,8 +133,8 @@ module _ (t : List ℕ) (f g : Frame) where
       let e = count-any at in
       let c : S.count (x .count) ≡ S.count (y .count) = ap (λ r. r .count) e in
       let p : x .at ≡ y .at = ap (λ r. r .at) e in
-      let w : x .fault ≡ y .fault = ap (λ r. r .fault) e in
-      let i : isImplied (x .count) ≡ isImplied (y .count) = count-implied (x .count) ∙ (ap isImplied c ∙ sym (count-implied (y .count))) in
+      let w : x .flaw ≡ y .flaw = ap (λ r. r .flaw) e in
+      let i : isImplied (x .count) ≡ isImplied (y .count) = blind S.count isImplied count-implied (x .count) (y .count) c in
       simp (maybe-pick, i, c, p, w)
 
   width-any : (at : TextPlace) → widthOf (widthRead t f at) ≡ widthOf (widthRead t g at)
@@ -157,7 +148,7 @@ module _ (t : List ℕ) (f g : Frame) where
       let e = count-any q in
       let c : S.count (countRead t f q .count) ≡ S.count (countRead t g q .count) = ap (λ r. r .count) e in
       let p : countRead t f q .at ≡ countRead t g q .at = ap (λ r. r .at) e in
-      let w : countRead t f q .fault ≡ countRead t g q .fault = ap (λ r. r .fault) e in
+      let w : countRead t f q .flaw ≡ countRead t g q .flaw = ap (λ r. r .flaw) e in
       pick-same precisionOf _ (pick-same precisionOf _ refl (rw (c, p, w))) refl
 
   word-any : (at : TextPlace) → typeOf (wordType t f at) ≡ typeOf (wordType t g at)
@@ -196,14 +187,14 @@ module _ (t : List ℕ) (f g : Frame) where
               widthspan = w x .span;
               precision = k x .precision;
               precisionspan = k x .span;
-              kind = y x .kind;
-              kindspan = y x .span;
+              typetext = y x .typetext;
+              typespan = y x .span;
             };
         at = y x .at;
         next = k x .next;
-        width = w x .fault;
-        precision = k x .fault;
-        kind = y x .fault;
+        width = w x .flaw;
+        precision = k x .flaw;
+        typetext = y x .flaw;
       })
 
   -- THE SPEC OF EACH MODE
@@ -243,20 +234,17 @@ identifier-same p x =
       count-implied (x .precision),
       maybe-none (x .widthspan),
       maybe-none (x .precisionspan),
-      maybe-none (x .kindspan),
+      maybe-none (x .typespan),
     )
 
--- WHERE A CLOSING BRACE IS MISSING
-abbrev recoveryOf : Recovery → Recovery
-recoveryOf r = record { at = r .at; next = r .next; word = r .word; field = r .field; hint = fault (r .hint); text = r .text }
+-- and what says why a closing brace should stand
+because-same : (x : Fill) (from brace : TextPlace) → because x from brace ≡ because (S.fill x) from brace
+because-same Fill.Absent from brace = refl
+because-same (Fill.Present c s) from brace = refl
 
-abbrev closingOf : Closing → Closing
-closingOf (Closing.Closed p) = Closing.Closed p
-closingOf (Closing.Missing x on) = Closing.Missing (fault x) (recoveryOf on)
-
+-- a placeholder and a step, without spans
 abbrev placeholderOf : PlaceholderRead → PlaceholderRead
-placeholderOf r =
-    record { argument = S.argument (r .argument); text = r .text; faults = r .faults; closing = closingOf (r .closing); at = r .at; next = r .next }
+placeholderOf r = record { argument = S.argument (r .argument); text = r .text; flaws = r .flaws; closing = r .closing; at = r .at; next = r .next }
 
 abbrev stepOf : Step → Step
 stepOf Step.End = Step.End
@@ -264,130 +252,60 @@ stepOf (Step.Stop p) = Step.Stop p
 stepOf (Step.Literal r) = Step.Literal r
 stepOf (Step.Placeholder p) = Step.Placeholder (placeholderOf p)
 
--- what a fault says does not hang on its spans: whether it is clean, its kind, where it is put, what it quotes
-told : (t : List ℕ) (x : Fault) →
-    (isClean x ≡ isClean (fault x))
-    × (fault (fault x) ≡ fault x)
-    × (kindOf x ≡ kindOf (fault x))
-    × (isFront x ≡ isFront (fault x))
-    × (quotedOf t x ≡ quotedOf t (fault x))
-told t Fault.Clean = (refl, refl, refl, refl, refl)
-told t (Fault.Unmatched p) = (refl, refl, refl, refl, refl)
-told t (Fault.Expected p s) = (refl, refl, refl, refl, refl)
-told t (Fault.Unclosed s) = (refl, refl, refl, refl, refl)
-told t (Fault.RawName r) = (refl, refl, refl, refl, refl)
-told t (Fault.AfterDebug p) = (refl, refl, refl, refl, refl)
-told t (Fault.Underscore r) = (refl, refl, refl, refl, refl)
-told t (Fault.TooLarge r) = (refl, refl, refl, refl, refl)
-told t (Fault.DebugFirst p r) = (refl, refl, refl, refl, refl)
-told t (Fault.NoColon p) = (refl, refl, refl, refl, refl)
-told t (Fault.Equals p s) = (refl, refl, refl, refl, refl)
-told t (Fault.Misplaced p) = (refl, refl, refl, refl, refl)
-told t (Fault.PlusFirst p) = (refl, refl, refl, refl, refl)
-told t (Fault.Field a b) = (refl, refl, refl, refl, refl)
-told t (Fault.TupleIndex a b) = (refl, refl, refl, refl, refl)
-told t (Fault.Comma p s) = (refl, refl, refl, refl, refl)
-
-fault-clean : (x : Fault) → isClean x ≡ isClean (fault x)
-fault-clean x = told [] x .0
-
 module _ (t : List ℕ) (f g : Frame) (m : Mode) where
-  hint-any : (b c : Span) (at past : TextPlace) → fault (signHint t b at past) ≡ fault (signHint t c at past)
-  unfolding signHint
-  hint-any b c at past = pick-same fault _ refl (pick-same fault _ refl (pick-same fault _ refl (pick-same fault _ refl refl)))
-
-  field-any : (from at : TextPlace) (n : ℕ) → recoveryOf (fieldRead t f m from at n) ≡ recoveryOf (fieldRead t g m from at n)
+  -- WHERE A CLOSING BRACE IS MISSING no span is made
+  field-any : (from at : TextPlace) (n : ℕ) → fieldRead t f m from at n ≡ fieldRead t g m from at n
   unfolding fieldRead
   field-any from at n =
-      pick-same recoveryOf _ (ap (λ a. recoveryOf (fieldAfter m from a (consumed t (a .at) 0x7D))) (argument-any t f g m (consumed t at 0x2E .at) n)) refl
+      let dot : Consumed = consumed t at 0x2E in
+      ap (λ a. pick (dot .ate) (fieldAfter m from a (consumed t (a .at) 0x7D)) (passedTo at n Hint.Silent)) (argument-any t f g m (dot .at) n)
 
-  recover-any : (b c : Span) (from : TextPlace) (i : Bool) (at : TextPlace) (n : ℕ) →
-      recoveryOf (recoverRead t f m b from i at n) ≡ recoveryOf (recoverRead t g m c from i at n)
+  recover-any : (from : TextPlace) (i : Bool) (at : TextPlace) (n : ℕ) → recoverRead t f m from i at n ≡ recoverRead t g m from i at n
   unfolding recoverRead
-  recover-any b c from i at n =
-      let past : TextPlace = pastAt t at in
-      let h = hint-any b c at past in
-      let k : isClean (signHint t b at past) ≡ isClean (signHint t c at past) =
-      fault-clean (signHint t b at past) ∙ (ap isClean h ∙ sym (fault-clean (signHint t c at past))) in
-      pick-same recoveryOf _
-      (pick-same recoveryOf _ refl
-      (rw k (pick-same recoveryOf _ (pick-same recoveryOf _ (field-any from at n) refl) (ap (λ x. passedTo past n x) h))))
-      refl
+  recover-any from i at n = rw (field-any from at n)
 
-  -- A WHOLE PLACEHOLDER
-  missing-any : (a b : Span) (end : TextPlace) → fault (expectedAt t end a) ≡ fault (expectedAt t end b)
-  unfolding expectedAt
-  missing-any a b end = go (peekAt t (end .0))
-    where
-      go : (n : Seen) → fault (expectedSeen end a n) ≡ fault (expectedSeen end b n)
-      go End = refl
-      go (Char c w) = refl
-
-  -- how reading goes on after an argument
-  goes : Frame → Span → TextPlace → ArgumentRead → Recovery
-  goes h b end a = recoverRead t h m b (a .from) (isIdentifier (a .place) (a .spec)) end (a .next)
-
-  goes-same : (h : Frame) (b : Span) (end : TextPlace) (a : ArgumentRead) → goes h b end a ≡ goes h b end (argumentOf a)
-  unfolding goes
-  goes-same h b end a = ap (λ i. recoverRead t h m b (a .from) i end (a .next)) (identifier-same (a .place) (a .spec))
-
-  goes-any : (b c : Span) (end : TextPlace) (x y : ArgumentRead) → argumentOf x ≡ argumentOf y →
-      recoveryOf (goes f b end x) ≡ recoveryOf (goes g c end y)
-  unfolding goes
-  goes-any b c end x y e =
-      ap recoveryOf (goes-same f b end x ∙ (ap (goes f b end) e ∙ sym (goes-same f b end y)))
-      ∙ recover-any b c (y .from) (isIdentifier (y .place) (y .spec)) end (y .next)
-
-  unclosed-any : (brace : TextPlace) (x y : ArgumentRead) (end : TextPlace) → argumentOf x ≡ argumentOf y →
-      placeholderOf (missingRead t f m brace x end) ≡ placeholderOf (missingRead t g m brace y end)
-  unfolding missingRead goes
-  unclosed-any brace x y end e =
-      let b : Span = spanAcross t f brace brace in
-      let c : Span = spanAcross t g brace brace in
-      let h = missing-any (because (x .spec .fill) b) (because (y .spec .fill) c) end in
-      let r = goes-any b c end x y e in
-      λ i.
+  -- A WHOLE PLACEHOLDER, of an argument without spans
+  abbrev whole : TextPlace → ArgumentRead → Closing → TextPlace → ℕ → PlaceholderRead
+  whole brace a closing at n =
       record {
-        argument = record { place = e i .place; placespan = S.anywhere; spec = e i .spec; range = rangeOf brace (r i .at) };
-        text = textTaken m (e i .spec .kind);
-        faults = e i .faults;
-        closing = Closing.Missing (h i) (r i);
-        at = r i .at;
-        next = r i .next;
+        argument = record { place = a .place; placespan = S.anywhere; spec = a .spec; range = rangeOf brace at };
+        text = textTaken m (a .spec .typetext);
+        flaws = a .flaws;
+        closing = closing;
+        at = at;
+        next = n;
       }
 
-  closed-any : (brace end to : TextPlace) (x y : ArgumentRead) → argumentOf x ≡ argumentOf y →
-      placeholderOf (wholeOf t f m brace x (Closing.Closed end) to (x .next)) ≡ placeholderOf (wholeOf t g m brace y (Closing.Closed end) to (y .next))
-  closed-any brace end to x y e =
-      λ i.
-      record {
-        argument = record { place = e i .place; placespan = S.anywhere; spec = e i .spec; range = rangeOf brace to };
-        text = textTaken m (e i .spec .kind);
-        faults = e i .faults;
-        closing = Closing.Closed end;
-        at = to;
-        next = e i .next;
-      }
+  -- where an argument ends, whitespace past
+  abbrev endOf : ArgumentRead → TextPlace
+  endOf a = spacesPast t (a .at)
 
-  -- a placeholder of an argument that ended at a place
-  ended : Frame → TextPlace → ArgumentRead → TextPlace → PlaceholderRead
-  ended h brace a end =
-      let close = consumed t end 0x7D in
-      pick (close .ate) (wholeOf t h m brace a (Closing.Closed end) (close .at) (a .next)) (missingRead t h m brace a end)
+  -- how reading goes on after it, and what says why
+  abbrev goes : Frame → ArgumentRead → Recovery
+  goes h a = recoverRead t h m (a .from) (isIdentifier (a .place) (a .spec)) (endOf a) (a .next)
 
-  ended-any : (brace : TextPlace) (x y : ArgumentRead) (end : TextPlace) → argumentOf x ≡ argumentOf y →
-      placeholderOf (ended f brace x end) ≡ placeholderOf (ended g brace y end)
-  unfolding ended
-  ended-any brace x y end e = pick-same placeholderOf _ (closed-any brace end _ x y e) (unclosed-any brace x y end e)
+  goes-same : (a : ArgumentRead) → goes f a ≡ goes f (argumentOf a)
+  goes-same a = ap (λ i. recoverRead t f m (a .from) i (endOf a) (a .next)) (identifier-same (a .place) (a .spec))
+
+  abbrev whyOf : TextPlace → ArgumentRead → TextPlace
+  whyOf brace a = because (a .spec .fill) (pastAt t (a .to)) brace
+
+  missing-any : (brace : TextPlace) (x y : ArgumentRead) → argumentOf x ≡ argumentOf y →
+      placeholderOf (missingRead t f m brace x (endOf x)) ≡ placeholderOf (missingRead t g m brace y (endOf y))
+  unfolding missingRead
+  missing-any brace x y e =
+      let why = blind argumentOf (whyOf brace) (λ a. because-same (a .spec .fill) (pastAt t (a .to)) brace) x y e in
+      let on : goes f x ≡ goes g y = blind argumentOf (goes f) goes-same x y e ∙ recover-any _ _ _ _ in
+      λ i. whole brace (e i) (Closing.Missing (gapAt t (endOf (e i)) (why i)) (on i)) (on i .at) (on i .next)
 
   placeholder-any : (brace at : TextPlace) (n : ℕ) →
       placeholderOf (placeholderRead t f m brace at n) ≡ placeholderOf (placeholderRead t g m brace at n)
-  unfolding placeholderRead ended
+  unfolding placeholderRead
   placeholder-any brace at n =
-      let x : ArgumentRead = argumentRead t f m at n in
-      let y : ArgumentRead = argumentRead t g m at n in
       let e = argument-any t f g m at n in
-      ap (λ p. placeholderOf (ended f brace x (spacesPast t p))) (ap (λ r. r .at) e) ∙ ended-any brace x y (spacesPast t (y .at)) e
+      pick-agree placeholderOf _ _ (ap (λ a. consumed t (endOf a) 0x7D .ate) e)
+      (ap (λ a. whole brace a (Closing.Closed (endOf a)) (consumed t (endOf a) 0x7D .at) (a .next)) e)
+      (missing-any brace (argumentRead t f m at n) (argumentRead t g m at n) e)
 
   -- STEPS
   step-any : (s : State) → stepOf (stepAt t f m s) ≡ stepOf (stepAt t g m s)
@@ -398,15 +316,15 @@ module _ (t : List ℕ) (f g : Frame) (m : Mode) where
       refl
 
 -- a step goes on as it does without spans
-onward-same : (n : ℕ) (x : Step) → onward n x ≡ onward n (stepOf x)
-onward-same n Step.End = refl
-onward-same n (Step.Stop p) = refl
-onward-same n (Step.Literal r) = refl
-onward-same n (Step.Placeholder p) = refl
+onward-same : (s : State) (x : Step) → onward s x ≡ onward s (stepOf x)
+onward-same s Step.End = refl
+onward-same s (Step.Stop p) = refl
+onward-same s (Step.Literal r) = refl
+onward-same s (Step.Placeholder p) = refl
 
-follow-any : (f g : State → List Step) → ((s : State) → map stepOf (f s) ≡ map stepOf (g s)) → (n : ℕ) (x y : Step) → stepOf x ≡ stepOf y →
-    map stepOf (x ∷ follow f (onward n x)) ≡ map stepOf (y ∷ follow g (onward n y))
-follow-any f g h n x y e = cc (e, more (onward n x), ap (onward n) e, onward-same n x, onward-same n y)
+follow-any : (f g : State → List Step) → ((s : State) → map stepOf (f s) ≡ map stepOf (g s)) → (s : State) (x y : Step) → stepOf x ≡ stepOf y →
+    map stepOf (x ∷ follow f (onward s x)) ≡ map stepOf (y ∷ follow g (onward s y))
+follow-any f g h s x y e = cc (e, more (onward s x), blind stepOf (onward s) (onward-same s) x y e)
   where
     more : (o : Onward) → map stepOf (follow f o) ≡ map stepOf (follow g o)
     more Onward.Over = refl
@@ -416,7 +334,7 @@ steps-any : (t : List ℕ) (f g : Frame) (m : Mode) (k : ℕ) (s : State) → ma
 unfolding stepsFrom
 steps-any t f g m zero s = refl
 steps-any t f g m (suc k) s =
-    follow-any (stepsFrom k t f m) (stepsFrom k t g m) (λ q. steps-any t f g m k q) (s .next) (stepAt t f m s) (stepAt t g m s) (step-any t f g m s)
+    follow-any (stepsFrom k t f m) (stepsFrom k t g m) (λ q. steps-any t f g m k q) s (stepAt t f m s) (stepAt t g m s) (step-any t f g m s)
 
 -- PIECES
 pieces-same : (xs : List Step) → map S.piece (gather piecesOf xs) ≡ gather piecesOf (map stepOf xs)
@@ -432,76 +350,35 @@ unfolding pieces reading
 pieces-any t f g m =
     pieces-same (reading t f m) ∙ (ap (gather piecesOf) (steps-any t f g m (length t + 1) start) ∙ sym (pieces-same (reading t g m)))
 
--- FAULTS
-wrong-same : (xs : List Fault) → map fault (wrong xs) ≡ wrong (map fault xs)
-unfolding wrong pick
-wrong-same [] = refl
-wrong-same (x ∷ xs) = caseB (isClean x) (λ k. cc (told [] x .0, wrong-same xs)) (λ k. cc (told [] x .0, wrong-same xs))
+-- FAULTS, which have no spans
+step-faults : (x : Step) → faultsOf x ≡ faultsOf (stepOf x)
+unfolding faultsOf stepSlots
+step-faults Step.End = refl
+step-faults (Step.Stop p) = refl
+step-faults (Step.Literal r) = refl
+step-faults (Step.Placeholder p) = refl
 
-slots-same : (x : Step) → map fault (stepSlots (stepOf x)) ≡ map fault (stepSlots x)
-unfolding stepSlots closingSlots missingSlots argumentSlots
-slots-same Step.End = refl
-slots-same (Step.Stop p) = refl
-slots-same (Step.Literal r) = refl
-slots-same (Step.Placeholder p) = go (p .closing)
-  where
-    go : (c : Closing) → map fault (argumentSlots (p .faults) ++ closingSlots (closingOf c)) ≡ map fault (argumentSlots (p .faults) ++ closingSlots c)
-    go (Closing.Closed q) = refl
-    go (Closing.Missing x on) = rw (told [] x .1, told [] (on .hint) .1)
-
-step-faults : (x : Step) → map fault (faultsOf (stepOf x)) ≡ map fault (faultsOf x)
-unfolding faultsOf
-step-faults x = wrong-same (stepSlots (stepOf x)) ∙ (ap wrong (slots-same x) ∙ sym (wrong-same (stepSlots x)))
-
-faults-same : (xs : List Step) → map fault (gather faultsOf xs) ≡ map fault (gather faultsOf (map stepOf xs))
+faults-same : (xs : List Step) → gather faultsOf xs ≡ gather faultsOf (map stepOf xs)
 unfolding gather
 faults-same [] = refl
-faults-same (x ∷ xs) = simp (map-append, step-faults x, faults-same xs)
+faults-same (x ∷ xs) = cc (step-faults x, faults-same xs)
 
-faults-any : (t : List ℕ) (f g : Frame) (m : Mode) → map fault (faults t f m) ≡ map fault (faults t g m)
+pub faults-any : (t : List ℕ) (f g : Frame) (m : Mode) → faults t f m ≡ faults t g m
 unfolding faults reading
-faults-any t f g m =
-    faults-same (reading t f m) ∙ (ap (λ xs. map fault (gather faultsOf xs)) (steps-any t f g m (length t + 1) start) ∙ sym (faults-same (reading t g m)))
+faults-any t f g m = blind (map stepOf) (gather faultsOf) faults-same (reading t f m) (reading t g m) (steps-any t f g m (length t + 1) start)
 
--- ERRORS
-front-same : (xs : List Fault) → map fault (frontOnly xs) ≡ frontOnly (map fault xs)
-unfolding frontOnly pick
-front-same [] = refl
-front-same (x ∷ xs) = caseB (isFront x) (λ k. cc (told [] x .3, front-same xs)) (λ k. cc (told [] x .3, front-same xs))
-
-back-same : (xs : List Fault) → map fault (backOnly xs) ≡ backOnly (map fault xs)
-unfolding backOnly pick
-back-same [] = refl
-back-same (x ∷ xs) = caseB (isFront x) (λ k. cc (told [] x .3, back-same xs)) (λ k. cc (told [] x .3, back-same xs))
-
-reversed-same : (xs : List Fault) → map fault (reversed xs) ≡ reversed (map fault xs)
-unfolding reversed
-reversed-same [] = refl
-reversed-same (x ∷ xs) = simp (map-append, reversed-same xs)
-
-listed-same : (xs : List Fault) → map fault (listed xs) ≡ listed (map fault xs)
-unfolding listed
-listed-same xs = simp (map-append, reversed-same, front-same, back-same)
-
-kinds-of : (t : List ℕ) (f : Frame) (xs : List Fault) → S.kinds (records t f xs) ≡ map kindOf (map fault xs)
-unfolding records recordOf
-kinds-of t f [] = refl
-kinds-of t f (x ∷ xs) = cc (told [] x .2, kinds-of t f xs)
-
-quotes-of : (t : List ℕ) (f : Frame) (xs : List Fault) → S.quotes (records t f xs) ≡ map (quotedOf t) (map fault xs)
-unfolding records recordOf
-quotes-of t f [] = refl
-quotes-of t f (x ∷ xs) = cc (told t x .4, quotes-of t f xs)
-
-listed-any : (t : List ℕ) (f g : Frame) (m : Mode) → map fault (listed (faults t f m)) ≡ map fault (listed (faults t g m))
-listed-any t f g m = listed-same (faults t f m) ∙ (ap listed (faults-any t f g m) ∙ sym (listed-same (faults t g m)))
+-- ERRORS: what a fault's record says beside its spans
+errors-any : {B : Type 0} (k : ErrorRecord → B) (t : List ℕ) (f g : Frame) (m : Mode) → ((x : Fault) → k (recordOf t f x) ≡ k (recordOf t g x)) →
+    map k (errors t f m) ≡ map k (errors t g m)
+unfolding errors records
+errors-any k t f g m s = rw (faults-any t f g m) (go (listed (faults t g m)))
+  where
+    go : (xs : List Fault) → map k (records t f xs) ≡ map k (records t g xs)
+    go [] = refl
+    go (x ∷ xs) = cc (s x, go xs)
 
 pub kinds-any : (t : List ℕ) (f g : Frame) (m : Mode) → S.kinds (errors t f m) ≡ S.kinds (errors t g m)
-unfolding errors
-kinds-any t f g m =
-    kinds-of t f (listed (faults t f m)) ∙ (ap (map kindOf) (listed-any t f g m) ∙ sym (kinds-of t g (listed (faults t g m))))
+kinds-any t f g m = errors-any (λ x. x .kind) t f g m (λ x. rw (record-parts t f x, record-parts t g x))
 
 pub quotes-any : (t : List ℕ) (f g : Frame) (m : Mode) → S.quotes (errors t f m) ≡ S.quotes (errors t g m)
-unfolding errors
-quotes-any t f g m =
-    quotes-of t f (listed (faults t f m)) ∙ (ap (map (quotedOf t)) (listed-any t f g m) ∙ sym (quotes-of t g (listed (faults t g m))))
+quotes-any t f g m = errors-any (λ x. x .quoted) t f g m (λ x. rw (record-parts t f x, record-parts t g x))

@@ -1,4 +1,4 @@
--- The codes of a valid text: those that its bytes are the UTF-8 of stand in it, and there are such. Rests on Stands and on `unicode`'s laws of
+-- The codes of a valid text: those that its bytes are the UTF-8 of stand in it, and there are such. Rests on Stands and on `utf8`'s laws of
 -- UTF-8.
 use mathlib.Core.Path.{_≡_, refl, ap, sym, _∙_}
 use mathlib.Core.List.{List, [], _∷_, _++_}
@@ -8,16 +8,16 @@ use borrow.Author.Tests.{ltb-true, ltb-false, ne-eqb}
 use lib.Dec.{ltb}
 use lib.ListN.{length, drop, length-append, length-drop}
 use lib.Seq.{drop-drop, drop-append-seam}
-use Rattle.unicode.specs.Choice.{pick, within}
-use Rattle.unicode.specs.ChoiceLaws.{pick-elim}
-use Rattle.unicode.specs.Utf8.{low, high, seq, code2, code3, code4, sequenceOf, sequenceAt, charOf, decode, peekAt, validPrefix}
-use Rattle.unicode.specs.DecodeLaws.{decode-sequence}
-use Rattle.unicode.specs.Utf8Laws.{sequence1, validEnd, valid-all, valid-on, valid-end}
-use Rattle.unicode.specs.Chars.{Ch, charsFrom}
-use Rattle.unicode.specs.Encode.{encode, encodeAll}
-use Rattle.unicode.specs.EncodeLaws.{encoded}
-use Rattle.unicode.specs.declared.Sequence.{Sequence}
-use Rattle.unicode.specs.declared.Seen.the-variants.{Char}
+use Rattle.utf8.specs.Choice.{pick, within}
+use Rattle.utf8.specs.ChoiceLaws.{pick-elim}
+use Rattle.utf8.specs.Utf8.{low, high, seq, code2, code3, code4, sequenceOf, sequenceAt, charOf, decode, peekAt, validPrefix}
+use Rattle.utf8.specs.DecodeLaws.{decode-sequence}
+use Rattle.utf8.specs.Utf8Laws.{sequence1, validEnd, valid-all, valid-on, valid-end}
+use Rattle.utf8.specs.Chars.{Ch, charsFrom}
+use Rattle.utf8.specs.Encode.{encode, encodeAll}
+use Rattle.utf8.specs.EncodeLaws.{encoded}
+use Rattle.utf8.specs.declared.Sequence.{Sequence}
+use Rattle.utf8.specs.declared.Seen.the-variants.{Char}
 use Rattle.grammar.specs.Grammar.{utf8}
 use Rattle.grammar.specs.Pieces.{wide}
 use Rattle.grammar.specs.Device.Stands.{wide-some, Stands}

@@ -1,5 +1,5 @@
 -- The grammar's words for characters beside the tests that the reading asks, and the classes of characters by which what is left of a
--- placeholder can begin. Rests on Runs and on `unicode`'s laws of the three questions.
+-- placeholder can begin. Rests on Runs and on `utf8`'s laws of the three questions.
 use mathlib.Core.Path.{_≡_, refl, sym, _∙_}
 use mathlib.Core.Logic.{inl, inr}
 use mathlib.Core.List.{List, [], _∷_}
@@ -7,10 +7,10 @@ use mathlib.Core.Bool.{Bool, true, false, _||_, true≢false, false≢true}
 use Prim.Native.Nat.{ℕ}
 use lib.Dec.{eqb, T}
 use borrow.Author.Tests.{eqb-true, eqb-false}
-use Rattle.unicode.specs.Choice.{pick, within}
-use Rattle.unicode.specs.ChoiceLaws.{not-so, within-low, within-high, in-within}
-use Rattle.unicode.specs.Questions.{isSpace, isStart, isContinue}
-use Rattle.unicode.specs.QuestionLaws.{among, marks, space-no-continue, space-no-start, mark-no-continue, mark-no-start, mark-no-space, digit-no-start, digit-no-space}
+use Rattle.utf8.specs.Choice.{pick, within}
+use Rattle.utf8.specs.ChoiceLaws.{not-so, within-low, within-high, in-within}
+use Rattle.letters.specs.Questions.{isSpace, isStart, isContinue}
+use Rattle.letters.specs.QuestionLaws.{among, marks, space-no-continue, space-no-start, mark-no-continue, mark-no-start, mark-no-space, digit-no-start, digit-no-space}
 use Rattle.scan.specs.Characters.{isPlain}
 use Rattle.scan.specs.Words.{isDigit}
 use Rattle.grammar.specs.Grammar.{All, Digit, Brace, Plain, NextBrace}

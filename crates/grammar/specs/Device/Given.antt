@@ -4,16 +4,17 @@ use mathlib.Core.Logic.{_≢_, inl, inr}
 use mathlib.Core.List.{List, [], _∷_, _++_}
 use mathlib.Core.Bool.{Bool, true, false, not, _||_, _&&_, and-false, true≢false, false≢true}
 use Prim.Native.Nat.{ℕ}
+use native.Mathlib.Omega.{arith}
 use lib.Dec.{eqb}
 use borrow.Author.Tests.{eqb-true, eqb-false, ne-eqb, le-leb, not-true}
-use Rattle.unicode.specs.Choice.{within}
-use Rattle.unicode.specs.Questions.{isSpace, isStart, isContinue}
-use Rattle.unicode.specs.QuestionLaws.{start-no-space, mark-no-continue, mark-no-start, mark-no-space}
-use Rattle.unicode.specs.Start.{start}
-use Rattle.unicode.specs.Table.{member}
+use Rattle.utf8.specs.Choice.{within}
+use Rattle.letters.specs.Questions.{isSpace, isStart, isContinue}
+use Rattle.letters.specs.QuestionLaws.{start-no-space, mark-no-continue, mark-no-start, mark-no-space}
+use Rattle.letters.specs.Start.{start}
+use Rattle.letters.specs.Table.{member}
 use Rattle.scan.specs.Characters.{isPlain}
 use Rattle.scan.specs.Words.{isDigit}
-use Rattle.placeholder.specs.declared.Mode.{Mode}
+use Rattle.frame.specs.declared.Mode.{Mode}
 use Rattle.grammar.specs.Grammar.{All, Space, Brace, Plain, Number, Word, value, Position, next, number, word, Alignment, alignChar, Lead, unaligned, aligned, filled, Signed, unsigned, plus, minus, Width, implied, fixed, byArgument, byName, Precision, undotted, star, dot, Letter, lower, upper, letterChar, Kind, untyped, debug, hexDebug, hex, typed, FormatSpec, SpecText, formatSpec, unmodified, modifier, freeText, Tail, bare, colon, Inside, Element, run, opened, closed, placeholder}
 use Rattle.grammar.specs.Grammar.{writtenPosition, FitsPosition, writtenLead, writtenSign, writtenFlag, writtenWidth, FitsWidth, writtenPrecision, FitsPrecision, writtenKind, FitsKind, fromWidth, fromZero, writtenFormat, FitsFormat, writtenSpec, FitsSpec, writtenTail, FitsTail, writtenInside, FitsInside, written, Fits}
 use Rattle.grammar.specs.Device.Runs.{caseB, first, Passes, Stops, Begins, begins-stops, begins-map, take-run, drop-run, differs, never, and-left, and-right}
@@ -215,6 +216,13 @@ dollar-not : (u v : List ℕ) → first 0x24 u ≡ false → u ≢ 0x24 ∷ v
 dollar-not [] v h e = never (sym e)
 dollar-not (c ∷ u) v h e = eqb-false c 0x24 h (cc)
 
+zero-width : (b : Bool) (w : Width) (u v : List ℕ) → w ≡ byArgument 0x30 [] → writtenFlag 0x30 b (writtenWidth w u) ≡ 0x30 ∷ 0x24 ∷ v → b ≡ false
+zero-width false w u v q e = refl
+zero-width true w u v q e =
+    let z : 0x30 ∷ 0x30 ∷ 0x24 ∷ u ≡ 0x30 ∷ 0x24 ∷ v = rw q at e in
+    let n : _≡_ {A = ℕ} 0x30 0x24 = cc in
+    absurd (omega arith)
+
 zero-given : (b : Bool) (u : List ℕ) → ((v : List ℕ) → writtenFlag 0x30 b u ≡ 0x30 ∷ v → ((w : List ℕ) → v ≢ 0x24 ∷ w) → b ≡ true)
     → ((v : List ℕ) → writtenFlag 0x30 b u ≡ 0x30 ∷ 0x24 ∷ v → b ≡ false) → zeroOf (writtenFlag 0x30 b u) ≡ got b u true
 unfolding zeroOf
@@ -290,7 +298,7 @@ format-given f t h e =
     let e7 = kind-given (f .kind) t (h .kind) e in
     let e6 = precision-given (f .precision) u6 (h .precision) b6 n6 in
     let e5 = width-given (f .width) u5 (h .width) b5 (precision-none (f .precision) u6 n6) in
-    let e4 = zero-given (f .zero) u4 (h .choice2) (h .choice2$) in
+    let e4 = zero-given (f .zero) u4 (h .choice2) (λ v q. zero-width (f .zero) (f .width) u5 v (h .choice2$ v q) q) in
     let e3 = hash-given (f .alternate) u3 b3 in
     let e2 = sign-given (f .sign) u2 b2 in
     let e1 = lead-given (f .lead) u1 (h .choice1) b1 in

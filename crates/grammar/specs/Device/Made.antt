@@ -6,11 +6,12 @@ use mathlib.Core.Bool.{Bool, true, false, not, _&&_, true≢false}
 use Prim.Native.Nat.{ℕ}
 use lib.Dec.{eqb}
 use borrow.Author.Tests.{eqb-true, eqb-false, leb-true, not-true}
-use Rattle.unicode.specs.Questions.{isSpace, isStart, isContinue}
+use Rattle.utf8.specs.Choice.{within}
+use Rattle.letters.specs.Questions.{isSpace, isStart, isContinue}
 use Rattle.scan.specs.Characters.{isPlain}
 use Rattle.scan.specs.Words.{isDigit}
-use Rattle.placeholder.specs.declared.Mode.{Mode}
-use Rattle.grammar.specs.Grammar.{All, Plain, NextBrace, Number, Word, value, Position, Alignment, left, right, center, alignChar, filled, Letter, lower, upper, letterChar, Tail, Inside, Element}
+use Rattle.frame.specs.declared.Mode.{Mode}
+use Rattle.grammar.specs.Grammar.{All, Plain, NextBrace, Number, Word, value, Position, Alignment, left, right, center, alignChar, filled, byArgument, Letter, lower, upper, letterChar, Tail, Inside, Element}
 use Rattle.grammar.specs.Grammar.{writtenPosition, FitsPosition, writtenLead, writtenSign, writtenFlag, writtenWidth, FitsWidth, writtenPrecision, FitsPrecision, writtenKind, FitsKind, fromWidth, fromZero, writtenFormat, FitsFormat, writtenSpec, FitsSpec, writtenTail, FitsTail, writtenInside, FitsInside, written, Fits}
 use Rattle.grammar.specs.Device.Runs.{caseB, takeW, dropW, first, take-drop, take-passes, drop-stops, and-left, and-right}
 use Rattle.grammar.specs.Device.Classes.{to-digit, to-digits, to-plains, to-next-brace, plain-brace}
@@ -123,8 +124,8 @@ zero-choice : (cs u : List ℕ) → cs ≡ 0x30 ∷ u → ((v : List ℕ) → u 
 unfolding zeroOf
 zero-choice cs u e s = rw e (rw (no-dollar u s, zeroOf))
 
-zero-choice$ : (cs v : List ℕ) → cs ≡ 0x30 ∷ 0x24 ∷ v → zeroOf cs .val ≡ false
-unfolding zeroOf
+zero-choice$ : (cs v : List ℕ) → cs ≡ 0x30 ∷ 0x24 ∷ v → widthOf (zeroOf cs .rest) .val ≡ byArgument 0x30 []
+unfolding zeroOf widthOf numberOf isDigit within takeW dropW
 zero-choice$ cs v e = rw e
 
 -- WIDTH AND PRECISION

@@ -6,15 +6,14 @@ use Prim.Native.Nat.{ℕ, _+_}
 use native.Mathlib.Omega.{arith}
 use borrow.Author.Tests.{eqb-true, eq-eqb, ne-eqb}
 use lib.Dec.{eqb}
-use Rattle.unicode.specs.Choice.{pick, within}
-use Rattle.unicode.specs.Questions.{isStart, isContinue}
-use Rattle.unicode.specs.QuestionLaws.{mark-no-continue}
+use Rattle.utf8.specs.Choice.{pick, within}
+use Rattle.letters.specs.Questions.{isStart, isContinue}
+use Rattle.letters.specs.QuestionLaws.{mark-no-continue}
 use Rattle.frame.specs.Places.{place, rangeOf}
 use Rattle.frame.specs.declared.TextPlace.{TextPlace}
 use Rattle.frame.specs.declared.TextRange.{TextRange}
 use Rattle.scan.specs.Words.{isDigit}
-use Rattle.scan.specs.declared.Fault.{Fault}
-use Rattle.closing.specs.Recovery.{isClean}
+use Rattle.scan.specs.declared.Flaw.{Flaw}
 use Rattle.placeholder.specs.Places.{placed, isR, rawPlace, wordAfter, wordPlace, placeRead}
 use Rattle.placeholder.specs.declared.position.Found.{Found}
 use Rattle.placeholder.specs.declared.position.PlaceRead.{PlaceRead}
@@ -24,7 +23,7 @@ use Rattle.grammar.specs.Device.Runs.{caseB, takeW, dropW, Stops, take-d
 use Rattle.grammar.specs.Device.Parser.{Got, got, okNumber, okWord, positionOf, hashWord, rawAt}
 use Rattle.grammar.specs.Device.Given.{r-start}
 use Rattle.grammar.specs.Device.Stands.{mark-wide, wide-some, Stands, take-none, stands-past, consume-yes, consume-no, past-ascii}
-use Rattle.grammar.specs.Device.Words.{clean-pick, empty, not-empty, word-none, wordOf, word-some, number-none, numberAt, number-some, kept-value, past-word}
+use Rattle.grammar.specs.Device.Words.{flawless, clean-pick, empty, not-empty, word-none, wordOf, word-some, number-none, numberAt, number-some, kept-value, past-word}
 
 -- a place that was found is what is written at byte p
 abbrev pub IsFound : ℕ → Position → Found → Type 0
@@ -40,8 +39,8 @@ nil (c ∷ r) = false
 module _ (t : List ℕ) where
   pub record PositionSame (at : TextPlace) (g : Got Position) (r : PlaceRead) : Type 0 where
     pub stands : Stands t (r .at .0) (g .rest)
-    pub clean : isClean (r .fault) ≡ g .ok
-    pub raw : isClean (r .raw) ≡ true
+    pub clean : flawless (r .flaw) ≡ g .ok
+    pub raw : flawless (r .raw) ≡ true
     pub found : g .ok ≡ true → IsFound (at .0) (g .val) (r .found)
 
   -- the word `r`
@@ -59,7 +58,7 @@ module _ (t : List ℕ) where
 
   -- after it, `#` and a word, or not
   raw-not : (name : TextRange) (u : List ℕ) → Stands t (name .end .0) u → hashWord u ≡ false →
-      rawPlace t name ≡ placed (Found.Word name) (name .end) Fault.Clean Fault.Clean
+      rawPlace t name ≡ placed (Found.Word name) (name .end) Flaw.Clean Flaw.Clean
   unfolding rawPlace hashWord pick
   raw-not name [] h k = cc (consume-no t (name .end) 0x23 [] h refl)
   raw-not name (x ∷ []) h k =
@@ -78,7 +77,7 @@ module _ (t : List ℕ) where
       rw (consume-yes t (name .end) 0x23 (x ∷ d ∷ v) h l, w, empty e))
       (λ l. cc (consume-no t (name .end) 0x23 (x ∷ d ∷ v) h l))
 
-  raw-so : (name : TextRange) (u : List ℕ) → Stands t (name .end .0) u → hashWord u ≡ true → isClean (rawPlace t name .raw) ≡ false
+  raw-so : (name : TextRange) (u : List ℕ) → Stands t (name .end .0) u → hashWord u ≡ true → flawless (rawPlace t name .raw) ≡ false
   unfolding rawPlace hashWord wordOf pick
   raw-so name [] h k = absurd (true≢false (sym k))
   raw-so name (x ∷ []) h k = absurd (true≢false (sym k))
@@ -87,7 +86,7 @@ module _ (t : List ℕ) where
       let l = and-left (eqb x 0x23) (isStart d) k in
       let s = and-right (eqb x 0x23) (isStart d) k in
       let w = word-some t e d v (past-ascii t (name .end .0) 0x23 x (d ∷ v) (omega arith) h l) s in
-      cc (consume-yes t (name .end) 0x23 (x ∷ d ∷ v) h l, w, not-empty e d (takeW isContinue v))
+      rw (consume-yes t (name .end) 0x23 (x ∷ d ∷ v) h l, w, not-empty e d (takeW isContinue v))
 
   -- a word that is no `r#` name
   plain-same : (at : TextPlace) (c : ℕ) (r u : List ℕ) → Stands t (at .0 + size (c ∷ r)) u →
@@ -95,7 +94,7 @@ module _ (t : List ℕ) where
       PositionSame at (got (word c r) u (okWord c r)) (wordAfter t at (wordOf t at c r))
   unfolding wordOf pick
   plain-same at c r u k n =
-      let w = clean-pick (okWord c r) (Fault.Underscore (rangeOf at (place (at .0 + size (c ∷ r))))) refl in
+      let w = clean-pick (okWord c r) (Flaw.Underscore (rangeOf at (place (at .0 + size (c ∷ r))))) refl in
       rw (not-empty at c r, n) (record { stands = k; clean = w; raw = refl; found = λ z. refl })
 
   word-same : (at : TextPlace) (c : ℕ) (cs r u : List ℕ) → r ++ u ≡ cs → Stands t (at .0) (c ∷ cs) → Stands t (at .0 + size (c ∷ r)) u →
@@ -114,7 +113,7 @@ module _ (t : List ℕ) where
   word-same at c cs (d ∷ r) u q h k n = plain-same at c (d ∷ r) u k (is-r at c cs (d ∷ r) h ∙ and-false (eqb c 0x72))
 
   no-place : (at : TextPlace) (cs : List ℕ) → Stands t (at .0) cs → Stops isDigit cs → Stops isStart cs →
-      placeRead t at ≡ placed Found.Nothing at Fault.Clean Fault.Clean
+      placeRead t at ≡ placed Found.Nothing at Flaw.Clean Flaw.Clean
   unfolding placeRead wordPlace pick
   no-place at cs h d s = cc (number-none t at cs h d, word-none t at cs h s, empty at)
 
@@ -129,7 +128,7 @@ module _ (t : List ℕ) where
       rw (number-some t at c cs h k, k, positionOf)
       (record {
         stands = past-word t at isDigit c cs h;
-        clean = clean-pick (okNumber c ds) (Fault.TooLarge (rangeOf at e)) refl;
+        clean = clean-pick (okNumber c ds) (Flaw.TooLarge (rangeOf at e)) refl;
         raw = refl;
         found = λ z. ap Found.Number (kept-value c ds z);
       }))
@@ -147,7 +146,7 @@ module _ (t : List ℕ) where
   hash-stops (x ∷ []) k = absurd (true≢false (sym k))
   hash-stops (x ∷ d ∷ v) k = rw (eqb-true x 0x23 (and-left (eqb x 0x23) (isStart d) k)) (mark-no-continue 0x23 tt)
 
-  pub position-raw : (at : TextPlace) (cs : List ℕ) → Stands t (at .0) cs → rawAt cs ≡ true → isClean (placeRead t at .raw) ≡ false
+  pub position-raw : (at : TextPlace) (cs : List ℕ) → Stands t (at .0) cs → rawAt cs ≡ true → flawless (placeRead t at .raw) ≡ false
   unfolding placeRead wordPlace wordOf rawAt isDigit within pick
   position-raw at [] h n = absurd (true≢false (sym n))
   position-raw at (c ∷ cs) h n =

@@ -4,13 +4,13 @@ use mathlib.Core.List.{List, [], _∷_}
 use Prim.Native.Nat.{ℕ, _+_, _≤_, _<_}
 use native.Mathlib.Omega.{arith}
 use lib.ListN.{length}
-use Rattle.unicode.specs.Utf8.{validPrefix}
+use Rattle.utf8.specs.Utf8.{validPrefix}
 use Rattle.frame.specs.declared.Frame.{Frame}
-use Rattle.placeholder.specs.declared.Mode.{Mode}
+use Rattle.frame.specs.declared.Mode.{Mode}
 use Rattle.reading.specs.Steps.{start, reading}
 use Rattle.reading.specs.Lists.{pieces, faults, errors}
 use Rattle.grammar.specs.Grammar.{Element, writtenAll, utf8, Reading}
-use Rattle.grammar.specs.Pieces.{size, ArePieces}
+use Rattle.grammar.specs.Pieces.{size, piecesOf}
 use Rattle.grammar.specs.Device.Parser.{Answer, none, some, parse}
 use Rattle.grammar.specs.Device.Unique.{sound, complete, unique}
 use Rattle.grammar.specs.Device.Stands.{wide-some, Stands, stands-size, stands-one}
@@ -28,13 +28,13 @@ module _ (t : List ℕ) (f : Frame) (m : Mode) where
   enough cs h = omega (arith, few cs, stands-size t 0 cs h)
 
   -- the whole reading beside the parser's answer
-  beside : (cs : List ℕ) → Stands t 0 cs → Whole start (parse m (length t + 1) cs) (reading t f m)
+  beside : (cs : List ℕ) → Stands t 0 cs → Whole (f .quote) start (parse m (length t + 1) cs) (reading t f m)
   unfolding reading
   beside cs h = whole t f m (length t + 1) start cs h (enough cs h)
 
   module _ (v : validPrefix t ≡ length t) where
     -- NO ERROR: there is a reading
-    found : (a : Answer) → parse m (length t + 1) (codes t) ≡ a → Whole start a (reading t f m) → faults t f m ≡ [] →
+    found : (a : Answer) → parse m (length t + 1) (codes t) ≡ a → Whole (f .quote) start a (reading t f m) → faults t f m ≡ [] →
         (es : List Element) × Reading m t es
     unfolding faults
     found none e w h = absurd (w h)
@@ -47,7 +47,7 @@ module _ (t : List ℕ) (f : Frame) (m : Mode) where
         found (parse m (length t + 1) (codes t)) refl (beside (codes t) (stands-in t (codes t) v (codes-text t v))) (errors-faults t f m h)
 
     -- A READING: no error, and the pieces are it
-    read-whole : (es : List Element) → Reading m t es → Whole start (some es) (reading t f m)
+    read-whole : (es : List Element) → Reading m t es → Whole (f .quote) start (some es) (reading t f m)
     read-whole es r =
         let cs : List ℕ = writtenAll es [] in
         let h = stands-in t cs v (r .spelled) in
@@ -58,9 +58,9 @@ module _ (t : List ℕ) (f : Frame) (m : Mode) where
     unfolding faults
     no-error es r = faults-errors t f m (read-whole es r .0)
 
-    pub are-pieces : (es : List Element) → Reading m t es → ArePieces 0 0 es (pieces t f m)
+    pub its-pieces : (es : List Element) → Reading m t es → pieces t f m ≡ piecesOf (f .quote) 0 0 es
     unfolding pieces
-    are-pieces es r = read-whole es r .1
+    its-pieces es r = read-whole es r .1
 
 -- ONLY ONE
 pub only-one : (t : List ℕ) (m : Mode) → validPrefix t ≡ length t → (es fs : List Element) → Reading m t es → Reading m t fs → es ≡ fs

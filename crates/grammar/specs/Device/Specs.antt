@@ -1,24 +1,26 @@
 -- A Format spec, and the spec of each mode, where codes stand: what the reading finds is what the parser takes.
 -- Rests on Parts and Types, and on Made and Splits for where each part stands.
-use mathlib.Core.Path.{_≡_, refl, ap, sym, subst, _∙_}
+use mathlib.Core.Path.{_≡_, refl, ap, _∙_}
 use mathlib.Core.List.{List, [], _∷_}
 use mathlib.Core.Bool.{Bool, true, _&&_}
-use Prim.Native.Nat.{ℕ, _+_}
+use Prim.Native.Nat.{ℕ, _+_, _<_}
 use native.Mathlib.Omega.{arith}
-use Rattle.unicode.specs.Questions.{isStart, isContinue}
-use Rattle.frame.specs.Places.{rangeOf}
+use lib.ListN.{length}
+use Rattle.letters.specs.Questions.{isStart}
+use Rattle.frame.specs.Places.{place, rangeOf}
 use Rattle.frame.specs.declared.TextPlace.{TextPlace}
 use Rattle.frame.specs.declared.TextRange.{TextRange}
 use Rattle.frame.specs.declared.Frame.{Frame}
-use Rattle.scan.specs.Characters.{consumed, isPlain}
+use Rattle.frame.specs.declared.Mode.{Mode}
+use Rattle.scan.specs.Characters.{consumed, textEnd}
+use Rattle.scan.specs.ScanLaws.{text-on}
 use Rattle.scan.specs.declared.Consumed.{Consumed}
-use Rattle.closing.specs.Recovery.{isClean}
 use Rattle.placeholder.specs.Parts.{fillRead, alignRead, signRead, widthRead, precisionRead}
-use Rattle.placeholder.specs.Types.{wordType}
+use Rattle.placeholder.specs.Types.{wordType, typeRead}
 use Rattle.placeholder.specs.Format.{formatRead}
 use Rattle.placeholder.specs.Specs.{typeOnly, diagnosticType, afterColon}
-use Rattle.placeholder.specs.declared.Mode.{Mode}
 use Rattle.placeholder.specs.declared.Hex.{Hex}
+use Rattle.placeholder.specs.declared.MaybeSpan.{MaybeSpan}
 use Rattle.placeholder.specs.declared.format.FillRead.{FillRead}
 use Rattle.placeholder.specs.declared.format.AlignRead.{AlignRead}
 use Rattle.placeholder.specs.declared.format.SignRead.{SignRead}
@@ -27,23 +29,16 @@ use Rattle.placeholder.specs.declared.format.PrecisionRead.{PrecisionRead}
 use Rattle.placeholder.specs.declared.format.TypeRead.{TypeRead}
 use Rattle.placeholder.specs.declared.format.SpecRead.{SpecRead}
 use Rattle.grammar.specs.Grammar.{FormatSpec, SpecText, writtenLead, writtenSign, writtenFlag, writtenWidth}
-use Rattle.grammar.specs.Pieces.{size, bytesAt, IsWidth, IsPrecision, kindOf as kindRange, widthAt, precisionAt, kindAt, IsFormat, IsOnly, IsSpec, pastPrecision, pastSpec}
-use Rattle.grammar.specs.Device.Runs.{caseB, takeW, and-left, and-right}
+use Rattle.grammar.specs.Pieces.{size, widthAt, precisionAt, typeAt, countOf, widthSpan, precisionOf as precisionCount, precisionSpan, typeText, typeSpan, formatAt, specAt, typeOnly as typeRecord, pastPrecision, pastSpec}
+use Rattle.grammar.specs.Device.Runs.{caseB, and-left, and-right}
 use Rattle.grammar.specs.Device.Parser.{Got, widthOf, precisionOf, kindOf, t1, t2, t3, t4, t5, t6, formatOf, modifierOf, specOf}
-use Rattle.grammar.specs.Device.Made.{lead-spelled, sign-spelled, hash-spelled, zero-spelled, width-made, precision-made}
-use Rattle.grammar.specs.Device.Splits.{Splits, both, lead-split, sign-split, flag-split, width-split, precision-split}
-use Rattle.grammar.specs.Device.Stands.{Stands, text-place, text-left, size-append, stands-place}
+use Rattle.grammar.specs.Device.Made.{lead-spelled, sign-spelled, hash-spelled, zero-spelled, width-made, precision-made, kind-made}
+use Rattle.grammar.specs.Device.Splits.{Splits, both, lead-split, sign-split, flag-split, width-split, precision-split, kind-split}
+use Rattle.grammar.specs.Device.Stands.{Stands, text-place, text-left, size-split, part-place}
+use Rattle.grammar.specs.Device.Spans.{between-present}
+use Rattle.grammar.specs.Device.Words.{flawless}
 use Rattle.grammar.specs.Device.Parts.{lead-same, sign-same, hash-same, width-same, precision-same}
 use Rattle.grammar.specs.Device.Types.{type-none, type-some, kind-same}
-
--- what is written before codes takes its own bytes and theirs
-pub size-split : {w : List ℕ → List ℕ} → Splits w → (u : List ℕ) → size (w u) ≡ size (w []) + size u
-size-split {w} s u = ap size (s u) ∙ size-append (w []) u
-
--- where a part stops, from what stands there
-pub part-place : (t : List ℕ) (i j : ℕ) {w : List ℕ → List ℕ} → Splits w → (cs u : List ℕ) → w u ≡ cs → Stands t i cs → Stands t j u →
-    j ≡ i + size (w [])
-part-place t i j {w} s cs u q h k = stands-place t i j (w []) u (rw (sym (s u) ∙ q) h) k
 
 -- before the flag `0`, and from there to the precision
 abbrev before : FormatSpec → List ℕ → List ℕ
@@ -61,12 +56,12 @@ counts-split f = both (flag-split 0x30 (f .zero)) (width-split (f .width))
 module _ (t : List ℕ) (f : Frame) where
   pub record FormatSame (at : TextPlace) (n : ℕ) (g : Got FormatSpec) (r : SpecRead) : Type 0 where
     pub stands : Stands t (r .at .0) (g .rest)
-    pub clean : (isClean (r .width) && (isClean (r .precision) && isClean (r .kind))) ≡ g .ok
+    pub clean : (flawless (r .width) && (flawless (r .precision) && flawless (r .typetext))) ≡ g .ok
     pub next : r .next ≡ pastPrecision n (g .val .precision)
-    pub found : g .ok ≡ true → IsFormat (at .0) n (g .val) (r .spec)
+    pub found : g .ok ≡ true → r .at .0 < length t → r .spec ≡ formatAt (f .quote) (at .0) n (g .val)
 
   pub format-same : (at : TextPlace) (n : ℕ) (cs : List ℕ) → Stands t (at .0) cs → FormatSame at n (formatOf cs) (formatRead t f at n)
-  unfolding formatOf formatRead
+  unfolding formatOf formatRead formatAt
   format-same at n cs h =
       let fi : FillRead = fillRead t f at in
       let al : AlignRead = alignRead t (fi .at) in
@@ -94,66 +89,89 @@ module _ (t : List ℕ) (f : Frame) where
       let f5 = size-split (flag-split 0x30 (x .zero)) (writtenWidth (x .width) []) in
       let p4 : ha .at .0 + size (writtenFlag 0x30 (x .zero) []) ≡ widthAt (at .0) x = omega arith in
       let p5 : wi .at .0 ≡ precisionAt (at .0) x = omega arith in
-      let p6 : pr .at .0 ≡ kindAt (at .0) x = omega arith in
+      let p6 : pr .at .0 ≡ typeAt (at .0) x = omega arith in
+      let ty : TypeRead = typeRead t f (pr .at) in
+      let q7 = kind-made (t6 cs) .spelled in
+      let e7 = part-place t (pr .at .0) (ty .at .0) (kind-split (x .kind)) (t6 cs) (formatOf cs .rest) q7 (s5 .stands) (s6 .stands) in
       record {
         stands = s6 .stands;
         clean = cc (s4 .clean, s5 .clean, s6 .clean);
         next = s5 .next;
         found =
-            λ z.
+            λ z l.
+            let a = and-left w (p && k) z in
+            let b = and-left p k (and-right w (p && k) z) in
+            let q : ℕ = f .quote in
+            let width = s4 .found a ∙ ap (λ i. countOf q i (x .width)) p4 in
+            let widthspan = s4 .span a (omega arith) ∙ ap (λ i. widthSpan q i (x .width)) p4 in
+            let precision = s5 .found b ∙ ap (λ i. precisionCount q i n (x .precision)) p5 in
+            let precisionspan = s5 .span (omega arith) ∙ ap (λ i. precisionSpan q i (x .precision)) p5 in
+            let kind = s6 .kind ∙ ap (λ i. typeText i (x .kind)) p6 in
+            let typespan = s6 .span l ∙ ap (λ i. typeSpan q i (x .kind)) p6 in
+            λ i.
             record {
-              fill = s1 .fill;
-              align = s1 .align;
-              sign = s2 .found;
-              alternate = s3 .found;
-              zero = s4 .zero;
-              width = subst (λ (i : ℕ). IsWidth i (x .width) (wi .width)) p4 (s4 .found (and-left w (p && k) z));
-              precision = subst (λ (i : ℕ). IsPrecision i n (x .precision) (pr .precision)) p5 (s5 .found (and-left p k (and-right w (p && k) z)));
-              hex = s6 .hex;
-              kind = s6 .kind ∙ ap (λ i. kindRange i (x .kind)) p6;
+              fill = s1 .fill i;
+              align = s1 .align i;
+              sign = s2 .found i;
+              alternate = s3 .found i;
+              zero = s4 .zero i;
+              hex = s6 .hex i;
+              width = width i;
+              widthspan = widthspan i;
+              precision = precision i;
+              precisionspan = precisionspan i;
+              typetext = kind i;
+              typespan = typespan i;
             };
       }
 
   -- THE SPEC OF EACH MODE
-  pub record SpecSame (at : TextPlace) (n : ℕ) (g : Got SpecText) (r : SpecRead) : Type 0 where
+  pub record SpecSame (colon : TextPlace) (n : ℕ) (g : Got SpecText) (r : SpecRead) : Type 0 where
     pub stands : Stands t (r .at .0) (g .rest)
-    pub clean : (isClean (r .width) && (isClean (r .precision) && isClean (r .kind))) ≡ g .ok
+    pub clean : (flawless (r .width) && (flawless (r .precision) && flawless (r .typetext))) ≡ g .ok
     pub next : r .next ≡ pastSpec n (g .val)
-    pub found : g .ok ≡ true → IsSpec (at .0) n (g .val) (r .spec)
+    pub found : g .ok ≡ true → r .at .0 < length t → r .spec ≡ specAt (f .quote) (colon .0) n (g .val)
 
-  -- a spec that has a type's text and nothing else
-  pub only : (x : TypeRead) (n : ℕ) (r : TextRange) → x .hex ≡ Hex.Absent → x .kind ≡ r → IsOnly r (typeOnly x n .spec)
-  only x n r h k =
-      record { fill = refl; align = refl; sign = refl; alternate = refl; zero = refl; width = refl; precision = refl; hex = h; kind = k }
+  -- a spec that has a type and nothing else
+  pub only : (x : TypeRead) (n : ℕ) (r : TextRange) (s : MaybeSpan) → x .hex ≡ Hex.Absent → x .typetext ≡ r → x .span ≡ s → typeOnly x n .spec ≡ typeRecord r s
+  only x n r s h k l = rw (h, k, l)
 
-  modifier-same : (at : TextPlace) (n : ℕ) (cs : List ℕ) → Stands t (at .0) cs → SpecSame at n (modifierOf cs) (typeOnly (wordType t f at) n)
+  -- the word or nothing after a colon
+  modifier-same : (colon : TextPlace) (n : ℕ) (cs : List ℕ) → Stands t (colon .0 + 1) cs →
+      SpecSame colon n (modifierOf cs) (typeOnly (wordType t f (place (colon .0 + 1))) n)
   unfolding modifierOf
-  modifier-same at n [] h =
+  modifier-same colon n [] h =
+      let at : TextPlace = place (colon .0 + 1) in
       let s = type-none t f at [] h tt in
-      record { stands = s .stands; clean = s .clean; next = refl; found = λ z. only (wordType t f at) n (bytesAt (at .0) []) (s .hex) (s .kind) }
-  modifier-same at n (c ∷ cs) h =
+      record { stands = s .stands; clean = s .clean; next = refl; found = λ z l. only (wordType t f at) n _ _ (s .hex) (s .kind) (s .span l) }
+  modifier-same colon n (c ∷ cs) h =
+      let at : TextPlace = place (colon .0 + 1) in
       caseB (isStart c)
       (λ k.
       let s = type-some t f at c cs h k in
-      let r = bytesAt (at .0) (c ∷ takeW isContinue cs) in
-      rw (k, modifierOf) (record { stands = s .stands; clean = s .clean; next = refl; found = λ z. only (wordType t f at) n r (s .hex) (s .kind) }))
+      rw (k, modifierOf)
+      (record { stands = s .stands; clean = s .clean; next = refl; found = λ z l. only (wordType t f at) n _ _ (s .hex) (s .kind) (s .span l) }))
       (λ k.
       let s = type-none t f at (c ∷ cs) h k in
       rw (k, modifierOf)
-      (record { stands = s .stands; clean = s .clean; next = refl; found = λ z. only (wordType t f at) n (bytesAt (at .0) []) (s .hex) (s .kind) }))
+      (record { stands = s .stands; clean = s .clean; next = refl; found = λ z l. only (wordType t f at) n _ _ (s .hex) (s .kind) (s .span l) }))
 
-  pub spec-same : (m : Mode) (at : TextPlace) (n : ℕ) (from : TextPlace) (cs : List ℕ) → Stands t (at .0) cs →
-      SpecSame at n (specOf m cs) (afterColon t f m from at n)
+  pub spec-same : (m : Mode) (colon : TextPlace) (n : ℕ) (cs : List ℕ) → Stands t (colon .0 + 1) cs →
+      SpecSame colon n (specOf m cs) (afterColon t f m colon (place (colon .0 + 1)) n)
   unfolding specOf diagnosticType
-  spec-same Mode.Format at n from cs h =
-      let s = format-same at n cs h in
+  spec-same Mode.Format colon n cs h =
+      let s = format-same (place (colon .0 + 1)) n cs h in
       record { stands = s .stands; clean = s .clean; next = s .next; found = s .found }
-  spec-same Mode.InlineAsm at n from cs h = modifier-same at n cs h
-  spec-same Mode.Diagnostic at n from cs h =
+  spec-same Mode.InlineAsm colon n cs h = modifier-same colon n cs h
+  spec-same Mode.Diagnostic colon n cs h =
+      let at : TextPlace = place (colon .0 + 1) in
       let e = text-place t at cs h in
       record {
         stands = text-left t at cs h;
         clean = refl;
         next = refl;
-        found = λ z. only (diagnosticType t f from at) n (bytesAt (at .0) (takeW isPlain cs)) refl (ap (rangeOf at) e);
+        found =
+            λ z l.
+            only (diagnosticType t f colon at) n _ _ refl (ap (rangeOf at) e)
+            (between-present t f colon (textEnd t at) _ (ap (λ p. p .0) e) (omega (arith, text-on t at)) l);
       }

@@ -1,6 +1,6 @@
 -- Where codes stand in a text, and what the leaves of the reading come to there: a character, whitespace, literal text.
--- Rests on Pieces' sizes, and on the laws of characters and runs of `unicode`.
-use mathlib.Core.Path.{_≡_, refl, ap, _∙_}
+-- Rests on Pieces' sizes, and on the laws of characters and runs of `utf8`.
+use mathlib.Core.Path.{_≡_, refl, ap, sym, _∙_}
 use mathlib.Core.List.{List, [], _∷_, _++_}
 use mathlib.Core.Bool.{Bool, true, false}
 use Prim.Native.Nat.{ℕ, _+_, _<_}
@@ -9,19 +9,20 @@ use native.Mathlib.Omega.{arith}
 use borrow.Author.Tests.{eqb-true, lt-ltb}
 use lib.Dec.{eqb, ltb}
 use lib.ListN.{length}
-use Rattle.unicode.specs.Choice.{pick}
-use Rattle.unicode.specs.ChoiceLaws.{pick-elim}
-use Rattle.unicode.specs.Encode.{encode}
-use Rattle.unicode.specs.Utf8.{peekAt}
-use Rattle.unicode.specs.Chars.{Ch, ch, charsFrom, takeWhile, bytes, runEnd}
-use Rattle.unicode.specs.CharLaws.{peeked, past-end, ended}
-use Rattle.unicode.specs.declared.Seen.the-variants.{Char, End}
+use Rattle.utf8.specs.Choice.{pick}
+use Rattle.utf8.specs.ChoiceLaws.{pick-elim}
+use Rattle.utf8.specs.Encode.{encode}
+use Rattle.utf8.specs.Utf8.{peekAt}
+use Rattle.utf8.specs.Chars.{Ch, ch, charsFrom, takeWhile, bytes, runEnd}
+use Rattle.utf8.specs.CharLaws.{peeked, past-end, ended}
+use Rattle.utf8.specs.declared.Seen.the-variants.{Char, End}
 use Rattle.frame.specs.Places.{place}
 use Rattle.frame.specs.declared.TextPlace.{TextPlace}
-use Rattle.unicode.specs.Questions.{isSpace}
+use Rattle.letters.specs.Questions.{isSpace}
 use Rattle.scan.specs.Characters.{spacesPast, isPlain, textEnd, sees, isAt, consumed}
 use Rattle.scan.specs.declared.Consumed.{Consumed}
 use Rattle.grammar.specs.Pieces.{wide, size}
+use Rattle.grammar.specs.Device.Splits.{Splits}
 use Rattle.grammar.specs.Device.Runs.{caseB, takeW, dropW, first, Stops, take-drop}
 
 -- a code takes a byte
@@ -65,6 +66,15 @@ stands-past t i (c ∷ r) u h = rw (← add-assoc) (stands-past t (i + wide c) r
 -- where the rest stands tells how many bytes were passed
 pub stands-place : (t : List ℕ) (i j : ℕ) (r u : List ℕ) → Stands t i (r ++ u) → Stands t j u → j ≡ i + size r
 stands-place t i j r u h k = omega (arith, stands-size t i (r ++ u) h, stands-size t j u k, size-append r u)
+
+-- what is written before codes takes its own bytes and theirs
+pub size-split : {w : List ℕ → List ℕ} → Splits w → (u : List ℕ) → size (w u) ≡ size (w []) + size u
+size-split {w} s u = ap size (s u) ∙ size-append (w []) u
+
+-- where a part stops, from what stands there
+pub part-place : (t : List ℕ) (i j : ℕ) {w : List ℕ → List ℕ} → Splits w → (cs u : List ℕ) → w u ≡ cs → Stands t i cs → Stands t j u →
+    j ≡ i + size (w [])
+part-place t i j {w} s cs u q h k = stands-place t i j (w []) u (rw (sym (s u) ∙ q) h) k
 
 -- codes that stand at a place are what stands there
 pub stands-one : (t : List ℕ) (i : ℕ) (cs ds : List ℕ) → Stands t i cs → Stands t i ds → cs ≡ ds

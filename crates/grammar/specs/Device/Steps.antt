@@ -1,6 +1,6 @@
 -- A step of the reading, where codes stand, beside the parser's: the same element and record, the end, or something wrong in both.
 -- Rests on Arguments.
-use mathlib.Core.Path.{_≡_, refl, ap, sym, _∙_}
+use mathlib.Core.Path.{_≡_, refl, ap, ap₂, sym, _∙_}
 use mathlib.Core.List.{List, [], _∷_, _++_, append-nil}
 use mathlib.Core.Bool.{true, false, _&&_, and-false, true≢false}
 use Prim.Native.Nat.{ℕ, _+_}
@@ -8,43 +8,41 @@ use native.Mathlib.Omega.{arith}
 use borrow.Author.Tests.{eqb-true, lt-ltb, le-ltb}
 use lib.Dec.{eqb}
 use lib.ListN.{length}
-use Rattle.unicode.specs.Choice.{pick}
-use Rattle.unicode.specs.ChoiceLaws.{pick-elim}
-use Rattle.unicode.specs.CharLaws.{seen-in}
-use Rattle.unicode.specs.Utf8.{peekAt}
-use Rattle.unicode.specs.declared.Seen.{Seen}
-use Rattle.unicode.specs.declared.Seen.the-variants.{Char, End}
+use Rattle.utf8.specs.Choice.{pick}
+use Rattle.utf8.specs.ChoiceLaws.{pick-elim}
+use Rattle.utf8.specs.CharLaws.{seen-in}
 use Rattle.frame.specs.Places.{place, rangeOf}
+use Rattle.frame.specs.Spans.{spanBetween}
 use Rattle.frame.specs.declared.TextPlace.{TextPlace}
-use Rattle.frame.specs.declared.Span.{Span}
 use Rattle.frame.specs.declared.Frame.{Frame}
-use Rattle.scan.specs.Characters.{consumed, isPlain, spacesPast, textEnd}
-use Rattle.scan.specs.declared.Fault.{Fault}
-use Rattle.closing.specs.Recovery.{isClean, expectedSeen, expectedAt}
+use Rattle.frame.specs.declared.Mode.{Mode}
+use Rattle.scan.specs.Characters.{isPlain, spacesPast, textEnd}
 use Rattle.placeholder.specs.Places.{placeRead}
 use Rattle.placeholder.specs.Arguments.{argumentRead}
-use Rattle.closing.specs.Wholes.{recordOf, missingRead, placeholderRead}
 use Rattle.placeholder.specs.declared.Argument.{Argument}
-use Rattle.placeholder.specs.declared.Mode.{Mode}
 use Rattle.placeholder.specs.declared.between.ArgumentRead.{ArgumentRead}
-use Rattle.closing.specs.declared.whole.Closing.{Closing}
+use Rattle.closing.specs.Wholes.{recordOf, missingRead, placeholderRead}
+use Rattle.closing.specs.declared.recover.Gap.{Gap}
+use Rattle.closing.specs.declared.recover.Recovery.{Recovery}
 use Rattle.closing.specs.declared.whole.PlaceholderRead.{PlaceholderRead}
 use Rattle.reading.specs.Steps.{stateOf, afterOpen, afterClose, stepAt, onward}
-use Rattle.reading.specs.Faults.{argumentSlots, missingSlots, closingSlots, stepSlots, wrong as wrongOnes, faultsOf}
+use Rattle.reading.specs.Faults.{isClean, argumentSlots, missingSlots, closingSlots, stepSlots, wrong as wrongOnes, faultsOf}
 use Rattle.reading.specs.Lists.{piecesOf}
+use Rattle.reading.specs.declared.Fault.{Fault}
 use Rattle.reading.specs.declared.State.{State}
 use Rattle.reading.specs.declared.Step.{Step as ReadStep}
 use Rattle.reading.specs.declared.Onward.{Onward}
 use Rattle.reading.specs.declared.Piece.{Piece}
 use Rattle.grammar.specs.Grammar.{Inside, Element, run, opened, closed, placeholder, written, writtenInside}
-use Rattle.grammar.specs.Pieces.{bytes, endOf, IsPiece, past}
+use Rattle.grammar.specs.Pieces.{bytes, endOf, tailAt, spanned, argumentAt, pieceAt, past}
 use Rattle.grammar.specs.Device.Runs.{caseB, takeW, dropW, first, never, take-drop, and-left, and-right}
 use Rattle.grammar.specs.Device.Parser.{Got, rawAt, insideOf, Step, piece, done, wrong, closeOf, insideStep, openStep, closeStep, step}
 use Rattle.grammar.specs.Device.Made.{inside-made}
 use Rattle.grammar.specs.Device.Splits.{split}
-use Rattle.grammar.specs.Device.Stands.{Stands, text-left, consume-yes, consume-no, past-ascii}
+use Rattle.grammar.specs.Device.Stands.{Stands, part-place, text-left, consume-yes, consume-no, past-ascii}
+use Rattle.grammar.specs.Device.Words.{flawless}
 use Rattle.grammar.specs.Device.Places.{position-raw}
-use Rattle.grammar.specs.Device.Specs.{part-place}
+use Rattle.grammar.specs.Device.Spans.{between}
 use Rattle.grammar.specs.Device.Arguments.{allClean, inside-same}
 
 -- WHAT IS WRONG
@@ -74,29 +72,24 @@ unclean-at : (xs : List Fault) (x : Fault) (ys : List Fault) → isClean x ≡ f
 unfolding allClean
 unclean-at xs x ys h = unclean (xs ++ (x ∷ ys)) (all-append xs (x ∷ ys) ∙ rw h (and-false (allClean xs)))
 
+-- so has one where a brace is missing
+missing-unclean : (xs : List Fault) (brace : TextPlace) (gap : Gap) (on : Recovery) → wrongOnes (xs ++ missingSlots brace gap on) ≡ [] → ⊥
+unfolding missingSlots
+missing-unclean xs brace (Gap.Before p why) on = unclean-at xs _ _ refl
+missing-unclean xs brace (Gap.AtEnd why) on = unclean-at xs _ _ refl
+
 -- an argument that is clean and closed has nothing wrong
 closed-clean : (xs : List Fault) → allClean xs ≡ true → wrongOnes (xs ++ []) ≡ []
 closed-clean xs h = rw (append-nil xs) (clean-none xs h)
-
--- a missing brace is a fault
-missing-fault : (t : List ℕ) (at : TextPlace) (why : Span) → isClean (expectedAt t at why) ≡ false
-unfolding expectedAt
-missing-fault t at why = go (peekAt t (at .0))
-  where
-    go : (n : Seen) → isClean (expectedSeen at why n) ≡ false
-    go End = refl
-    go (Char c w) = refl
 
 module _ (t : List ℕ) (f : Frame) (m : Mode) where
   -- what a step comes to that takes an element and leaves codes: its record, where reading goes on, and nothing wrong
   pub record Took (s : State) (e : Element) (u : List ℕ) (x : ReadStep) : Type 0 where
     pub to : State
-    pub one : Piece
-    pub goes : onward (s .next) x ≡ Onward.To to
+    pub goes : onward s x ≡ Onward.To to
     pub stands : Stands t (to .at .0) u
     pub number : to .next ≡ past (s .next) e
-    pub pieces : piecesOf x ≡ one ∷ []
-    pub is : IsPiece (s .at .0) (s .next) e one
+    pub pieces : piecesOf x ≡ pieceAt (f .quote) (s .at .0) (s .next) e ∷ []
     pub clean : faultsOf x ≡ []
 
   -- the same step
@@ -121,12 +114,10 @@ module _ (t : List ℕ) (f : Frame) (m : Mode) where
       let p = element-end (s .at .0) (textEnd t (s .at) .0) e (c ∷ cs) (dropW isPlain cs) q h u in
       record {
         to = stateOf (textEnd t (s .at)) (s .next);
-        one = Piece.Literal (rangeOf (s .at) (textEnd t (s .at)));
         goes = refl;
         stands = u;
         number = refl;
-        pieces = refl;
-        is = ap (λ j. Piece.Literal (bytes (s .at .0) j)) p;
+        pieces = ap (λ j. Piece.Literal (bytes (s .at .0) j) ∷ []) p;
         clean = refl;
       }
 
@@ -136,58 +127,55 @@ module _ (t : List ℕ) (f : Frame) (m : Mode) where
 
   doubled-took : (s : State) (e : Element) (cs ds : List ℕ) → Stands t (s .at .0) cs → Stands t (s .at .0 + 1 + 1) ds →
       written e (dropW isPlain ds) ≡ cs → past (s .next) e ≡ s .next →
-      ((x : Piece) → x ≡ Piece.Literal (bytes (s .at .0 + 1) (endOf (s .at .0) e)) → IsPiece (s .at .0) (s .next) e x) →
+      Piece.Literal (bytes (s .at .0 + 1) (endOf (s .at .0) e)) ≡ pieceAt (f .quote) (s .at .0) (s .next) e →
       Took s e (dropW isPlain ds) (viewed s)
   unfolding faultsOf stepSlots wrongOnes
   doubled-took s e cs ds h k q n is =
       let to : TextPlace = textEnd t (place (s .at .0 + 1 + 1)) in
-      let one : Piece = Piece.Literal (rangeOf (place (s .at .0 + 1)) to) in
       let u = text-left t (place (s .at .0 + 1 + 1)) ds k in
       let p = element-end (s .at .0) (to .0) e cs (dropW isPlain ds) q h u in
       record {
         to = stateOf to (s .next);
-        one = one;
         goes = refl;
         stands = u;
         number = sym n;
-        pieces = refl;
-        is = is one (ap (λ j. Piece.Literal (bytes (s .at .0 + 1) j)) p);
+        pieces = ap (λ (x : Piece). x ∷ []) (ap (λ j. Piece.Literal (bytes (s .at .0 + 1) j)) p ∙ is);
         clean = refl;
       }
 
   opened-took : (s : State) (cs ds : List ℕ) → Stands t (s .at .0) cs → Stands t (s .at .0 + 1 + 1) ds → 0x7B ∷ 0x7B ∷ ds ≡ cs →
       Took s (opened (takeW isPlain ds)) (dropW isPlain ds) (viewed s)
-  opened-took s cs ds h k q = doubled-took s (opened (takeW isPlain ds)) cs ds h k (cc (take-drop isPlain ds)) refl (λ x e. e)
+  opened-took s cs ds h k q = doubled-took s (opened (takeW isPlain ds)) cs ds h k (cc (take-drop isPlain ds)) refl refl
 
   closed-took : (s : State) (cs ds : List ℕ) → Stands t (s .at .0) cs → Stands t (s .at .0 + 1 + 1) ds → 0x7D ∷ 0x7D ∷ ds ≡ cs →
       Took s (closed (takeW isPlain ds)) (dropW isPlain ds) (viewed s)
-  closed-took s cs ds h k q = doubled-took s (closed (takeW isPlain ds)) cs ds h k (cc (take-drop isPlain ds)) refl (λ x e. e)
+  closed-took s cs ds h k q = doubled-took s (closed (takeW isPlain ds)) cs ds h k (cc (take-drop isPlain ds)) refl refl
 
   -- PLACEHOLDERS
-  -- an argument that has something wrong, closed or not
-  argument-wrong : (brace at : TextPlace) (n : ℕ) → allClean (argumentSlots (argumentRead t f m at n .faults)) ≡ false →
+  -- closed or not, an argument's flaws are its placeholder's
+  flaws-same : (brace at : TextPlace) (n : ℕ) → placeholderRead t f m brace at n .flaws ≡ argumentRead t f m at n .flaws
+  unfolding placeholderRead missingRead
+  flaws-same brace at n = pick-elim (λ (p : PlaceholderRead). p .flaws ≡ argumentRead t f m at n .flaws) _ (λ _. refl) (λ _. refl)
+
+  argument-wrong : (brace at : TextPlace) (n : ℕ) → allClean (argumentSlots (argumentRead t f m at n .flaws)) ≡ false →
       faultsOf (ReadStep.Placeholder (placeholderRead t f m brace at n)) ≡ [] → ⊥
-  unfolding faultsOf stepSlots placeholderRead missingRead
+  unfolding faultsOf stepSlots
   argument-wrong brace at n k =
-      let a : ArgumentRead = argumentRead t f m at n in
-      let end : TextPlace = spacesPast t (a .at) in
-      pick-elim (λ (p : PlaceholderRead). wrongOnes (argumentSlots (p .faults) ++ closingSlots (p .closing)) ≡ [] → ⊥) (consumed t end 0x7D .ate)
-      (λ _. go (closingSlots (Closing.Closed end)))
-      (λ _. go (closingSlots (missingRead t f m brace a end .closing)))
-    where
-      go : (ys : List Fault) → wrongOnes (argumentSlots (argumentRead t f m at n .faults) ++ ys) ≡ [] → ⊥
-      go ys = unclean (argumentSlots (argumentRead t f m at n .faults) ++ ys) (all-append (argumentSlots (argumentRead t f m at n .faults)) ys ∙ rw k)
+      let p : PlaceholderRead = placeholderRead t f m brace at n in
+      let xs : List Fault = argumentSlots (p .flaws) in
+      let ys : List Fault = closingSlots (p .argument .range .start) (p .closing) in
+      unclean (xs ++ ys) (all-append xs ys ∙ rw (flaws-same brace at n, k))
 
   -- a placeholder that is not closed
   missing-wrong : (brace : TextPlace) (a : ArgumentRead) (end : TextPlace) → faultsOf (ReadStep.Placeholder (missingRead t f m brace a end)) ≡ [] → ⊥
-  unfolding faultsOf stepSlots missingRead closingSlots missingSlots
-  missing-wrong brace a end = unclean-at (argumentSlots (a .faults)) _ _ (missing-fault t end _)
+  unfolding faultsOf stepSlots missingRead closingSlots
+  missing-wrong brace a end = missing-unclean (argumentSlots (a .flaws)) brace _ _
 
   -- a placeholder that is closed and right
   placeholder-took : (s : State) (cs ds : List ℕ) → Stands t (s .at .0) (0x7B ∷ cs) → Stands t (s .at .0 + 1) cs → rawAt cs ≡ false →
       insideOf m cs .ok ≡ true → insideOf m cs .rest ≡ 0x7D ∷ ds →
       Took s (placeholder (insideOf m cs .val)) ds (ReadStep.Placeholder (placeholderRead t f m (s .at) (place (s .at .0 + 1)) (s .next)))
-  unfolding faultsOf stepSlots closingSlots placeholderRead pick
+  unfolding faultsOf stepSlots closingSlots placeholderRead argumentAt pick
   placeholder-took s cs ds h k raw ok q =
       let at : TextPlace = place (s .at .0 + 1) in
       let n : ℕ = s .next in
@@ -199,17 +187,21 @@ module _ (t : List ℕ) (f : Frame) (m : Mode) where
       let v : Stands t (end .0 + 1) ds = past-ascii t (end .0) 0x7D 0x7D ds (omega arith) u refl in
       let w : writtenInside (g .val) (0x7D ∷ ds) ≡ cs = rw q at (inside-made m cs .spelled) in
       let p = element-end (s .at .0) (end .0 + 1) (placeholder (g .val)) (0x7B ∷ cs) ds (ap (λ l. 0x7B ∷ l) w) h v in
-      let y : Argument = recordOf t f (s .at) a (place (end .0 + 1)) in
+      let l = seen-in t (end .0) (u .0) in
+      let span = between t f (a .from) (a .to) (omega (arith, x .to, ap (λ b. b .0) (x .from))) (omega (arith, x .on)) in
+      let here : spanBetween t f (a .from) (a .to) ≡ spanned (f .quote) (s .at .0 + 1) (tailAt (s .at .0) (g .val)) =
+      span ∙ ap₂ (λ (b : TextPlace) j. spanned (f .quote) (b .0) j) (x .from) (x .to) in
+      let range : rangeOf (s .at) (place (end .0 + 1)) ≡ bytes (s .at .0) (endOf (s .at .0) (placeholder (g .val))) = ap (λ j. bytes (s .at .0) j) p in
+      let y : recordOf t f (s .at) a (place (end .0 + 1)) ≡ argumentAt (f .quote) (s .at .0) n (g .val) =
+      λ i. record { place = x .place ok i; placespan = here i; spec = x .spec ok l i; range = range i } in
       rw (consume-yes t end 0x7D (0x7D ∷ ds) u refl)
       (record {
         to = stateOf (place (end .0 + 1)) (a .next);
-        one = Piece.Placeholder y;
         goes = refl;
         stands = v;
         number = x .next ok;
-        pieces = refl;
-        is = (y, refl, record { place = x .place ok; spec = x .spec ok; range = ap (λ j. bytes (s .at .0) j) p });
-        clean = closed-clean (argumentSlots (a .faults)) (x .clean ∙ ok);
+        pieces = ap (λ (b : Argument). Piece.Placeholder b ∷ []) y;
+        clean = closed-clean (argumentSlots (a .flaws)) (x .clean ∙ ok);
       })
 
   -- one that is not closed
@@ -226,7 +218,7 @@ module _ (t : List ℕ) (f : Frame) (m : Mode) where
       faultsOf (ReadStep.Placeholder (placeholderRead t f m brace at n)) ≡ [] → ⊥
   unfolding argumentSlots argumentRead allClean
   raw-wrong brace at n cs h k =
-      argument-wrong brace at n (rw (position-raw t at cs h k) (and-false (isClean (placeRead t at .fault))))
+      argument-wrong brace at n (rw (position-raw t at cs h k) (and-false (flawless (placeRead t at .flaw))))
 
   close-same : (s : State) (cs us : List ℕ) → Stands t (s .at .0) (0x7B ∷ cs) → Stands t (s .at .0 + 1) cs → rawAt cs ≡ false →
       insideOf m cs .rest ≡ us →

@@ -4,7 +4,7 @@ use mathlib.Core.List.{List, [], _∷_}
 use Prim.Native.Nat.{ℕ, zero, suc, _<_}
 use lib.ListN.{length, length-append}
 use native.Mathlib.Omega.{arith}
-use Rattle.placeholder.specs.declared.Mode.{Mode}
+use Rattle.frame.specs.declared.Mode.{Mode}
 use Rattle.grammar.specs.Grammar.{Element, written, writtenAll, FitsAll}
 use Rattle.grammar.specs.Device.Parser.{Step, piece, done, wrong, step, Answer, none, some, more, parse}
 use Rattle.grammar.specs.Device.Made.{Good, step-made, step-done}

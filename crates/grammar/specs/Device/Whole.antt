@@ -6,22 +6,21 @@ use Prim.Native.Nat.{ℕ, zero, suc, _<_}
 use native.Mathlib.Omega.{arith}
 use lib.ListN.{length}
 use Rattle.frame.specs.declared.Frame.{Frame}
-use Rattle.placeholder.specs.declared.Mode.{Mode}
+use Rattle.frame.specs.declared.Mode.{Mode}
 use Rattle.reading.specs.Steps.{stepAt, onward, follow, stepsFrom}
 use Rattle.reading.specs.Faults.{stepSlots, wrong as wrongOnes, faultsOf}
-use Rattle.reading.specs.Lists.{gather, piecesOf, faults, errors}
-use Rattle.reading.specs.ListLaws.{no-length, errors-length}
+use Rattle.reading.specs.Lists.{gather, piecesOf as stepPieces, faults, errors}
+use Rattle.laws.specs.ListLaws.{no-length, errors-length}
 use Rattle.reading.specs.declared.State.{State}
 use Rattle.reading.specs.declared.Step.{Step as ReadStep}
 use Rattle.grammar.specs.Grammar.{Element}
-use Rattle.grammar.specs.Pieces.{endOf, ArePieces}
+use Rattle.grammar.specs.Pieces.{endOf, pieceAt, piecesOf}
 use Rattle.grammar.specs.Device.Runs.{never}
 use Rattle.grammar.specs.Device.Parser.{step, Answer, none, some, more, parse}
 use Rattle.grammar.specs.Device.Made.{step-made}
 use Rattle.grammar.specs.Device.Splits.{split}
 use Rattle.grammar.specs.Device.Unique.{caseS, step-shorter, parse-piece, parse-done, parse-wrong}
-use Rattle.grammar.specs.Device.Stands.{Stands}
-use Rattle.grammar.specs.Device.Specs.{part-place}
+use Rattle.grammar.specs.Device.Stands.{Stands, part-place}
 use Rattle.grammar.specs.Device.Steps.{Took, step-same}
 
 -- of two lists that come to nothing neither has anything
@@ -37,27 +36,27 @@ pub faults-errors : (t : List ℕ) (f : Frame) (m : Mode) → faults t f m ≡ [
 faults-errors t f m h = no-length (errors t f m) (errors-length t f m ∙ ap length h)
 
 -- THE WHOLE READING
-abbrev pub Whole : State → Answer → List ReadStep → Type 0
-Whole s none xs = gather faultsOf xs ≡ [] → ⊥
-Whole s (some es) xs = (gather faultsOf xs ≡ []) × ArePieces (s .at .0) (s .next) es (gather piecesOf xs)
+abbrev pub Whole : ℕ → State → Answer → List ReadStep → Type 0
+Whole q s none xs = gather faultsOf xs ≡ [] → ⊥
+Whole q s (some es) xs = (gather faultsOf xs ≡ []) × (gather stepPieces xs ≡ piecesOf q (s .at .0) (s .next) es)
 
 module _ (t : List ℕ) (f : Frame) (m : Mode) where
   -- a step, and then the rest
   more-whole : (s : State) (e : Element) (u : List ℕ) (x : ReadStep) (k : Took t f m s e u x) → k .to .at .0 ≡ endOf (s .at .0) e →
-      (a : Answer) (xs : List ReadStep) → Whole (k .to) a xs → Whole s (more e a) (x ∷ xs)
-  unfolding more gather
+      (a : Answer) (xs : List ReadStep) → Whole (f .quote) (k .to) a xs → Whole (f .quote) s (more e a) (x ∷ xs)
+  unfolding more gather piecesOf
   more-whole s e u x k p none xs w = λ h. w (append-none (faultsOf x) (gather faultsOf xs) h .1)
   more-whole s e u x k p (some es) xs w = (
     rw (k .clean) (w .0),
-    rw (k .pieces) (k .is, rw (← p, ← (k .number)) (w .1)),
+    rw (k .pieces) (ap (λ l. pieceAt (f .quote) (s .at .0) (s .next) e ∷ l) (rw (← p, ← (k .number)) (w .1))),
   )
 
   -- the end
-  ended : (s : State) (x : ReadStep) → x ≡ ReadStep.End → (go : State → List ReadStep) → Whole s (some []) (x ∷ follow go (onward (s .next) x))
-  unfolding gather faultsOf stepSlots wrongOnes
-  ended s x z go = rw z (refl, tt)
+  ended : (s : State) (x : ReadStep) → x ≡ ReadStep.End → (go : State → List ReadStep) → Whole (f .quote) s (some []) (x ∷ follow go (onward s x))
+  unfolding gather piecesOf faultsOf stepSlots wrongOnes
+  ended s x z go = rw z (refl, refl)
 
-  pub whole : (k : ℕ) (s : State) (cs : List ℕ) → Stands t (s .at .0) cs → length cs < k → Whole s (parse m k cs) (stepsFrom k t f m s)
+  pub whole : (k : ℕ) (s : State) (cs : List ℕ) → Stands t (s .at .0) cs → length cs < k → Whole (f .quote) s (parse m k cs) (stepsFrom k t f m s)
   unfolding stepsFrom gather
   whole zero s cs h l = absurd (omega arith)
   whole (suc k) s cs h l =
@@ -72,4 +71,4 @@ module _ (t : List ℕ) (f : Frame) (m : Mode) where
       (λ q. let z : x ≡ ReadStep.End = rw q at y in rw (parse-done m k cs q) (ended s x z (stepsFrom k t f m)))
       (λ q.
       let z : faultsOf x ≡ [] → ⊥ = rw q at y in
-      rw (parse-wrong m k cs q) (λ g. z (append-none (faultsOf x) (gather faultsOf (follow (stepsFrom k t f m) (onward (s .next) x))) g .0)))
+      rw (parse-wrong m k cs q) (λ g. z (append-none (faultsOf x) (gather faultsOf (follow (stepsFrom k t f m) (onward s x))) g .0)))

@@ -8,28 +8,29 @@ use native.Mathlib.Nat.{add-assoc, mod-eq-of-lt}
 use native.Mathlib.Omega.{arith}
 use borrow.Author.Tests.{eq-eqb, ne-eqb, leb-true, leb-false, lt-ltb, le-ltb}
 use lib.Dec.{eqb, leb, ltb}
-use Rattle.unicode.specs.Choice.{pick}
-use Rattle.unicode.specs.ChoiceLaws.{both-false}
-use Rattle.unicode.specs.Chars.{charsFrom, takeWhile, runEnd}
-use Rattle.unicode.specs.Questions.{isStart, isContinue}
+use Rattle.utf8.specs.Choice.{pick}
+use Rattle.utf8.specs.ChoiceLaws.{both-false}
+use Rattle.utf8.specs.Chars.{charsFrom, takeWhile, runEnd}
+use Rattle.utf8.specs.CharLaws.{seen-in}
+use Rattle.letters.specs.Questions.{isStart, isContinue}
 use Rattle.frame.specs.Places.{place, rangeOf}
-use Rattle.frame.specs.Spans.{spanBetween}
 use Rattle.frame.specs.declared.TextPlace.{TextPlace}
 use Rattle.frame.specs.declared.Frame.{Frame}
 use Rattle.scan.specs.Characters.{isAt}
 use Rattle.scan.specs.Words.{wordSeen, wordEnd, isUnderscore, wordRead, isDigit, decimal, noted, digitsAt, numberFrom, numberRead}
 use Rattle.scan.specs.Counts.{isEmpty, counted, numberCount, nameAfter, nameCount, countRead}
-use Rattle.scan.specs.declared.Fault.{Fault}
+use Rattle.scan.specs.declared.Flaw.{Flaw}
 use Rattle.scan.specs.declared.WordRead.{WordRead}
 use Rattle.scan.specs.declared.Number.{Number}
 use Rattle.scan.specs.declared.NumberRead.{NumberRead}
 use Rattle.scan.specs.declared.Count.{Count}
 use Rattle.scan.specs.declared.CountRead.{CountRead}
-use Rattle.closing.specs.Recovery.{isClean}
+use Rattle.reading.specs.Faults.{isClean, flawFault}
 use Rattle.grammar.specs.Grammar.{value, Width}
-use Rattle.grammar.specs.Pieces.{wide, size, IsWidth}
+use Rattle.grammar.specs.Pieces.{wide, size, countOf}
 use Rattle.grammar.specs.Device.Runs.{caseB, takeW, dropW, Stops, take-drop}
 use Rattle.grammar.specs.Device.Parser.{Got, okNumber, okWord, numberOf, nameOf, widthOf}
+use Rattle.grammar.specs.Device.Spans.{between}
 use Rattle.grammar.specs.Device.Stands.{mark-wide, wide-some, Stands, run-none, stands-past, stands-end, chars, run-chars, run-place, is-at, consume-yes, consume-no, past-ascii}
 
 pick-not : {A : Type 0} (b : Bool) (x y : A) → pick (not b) x y ≡ pick b y x
@@ -37,8 +38,12 @@ unfolding pick
 pick-not true x y = refl
 pick-not false x y = refl
 
--- a fault that is chosen where something is not right is clean where it is
-pub clean-pick : (b : Bool) (x : Fault) → isClean x ≡ false → isClean (pick b Fault.Clean x) ≡ b
+-- a leaf found nothing wrong
+abbrev pub flawless : Flaw → Bool
+flawless x = isClean (flawFault x)
+
+-- a flaw that is chosen where something is not right is none where it is
+pub clean-pick : (b : Bool) (x : Flaw) → flawless x ≡ false → flawless (pick b Flaw.Clean x) ≡ b
 unfolding pick
 clean-pick true x h = refl
 clean-pick false x h = h
@@ -65,7 +70,7 @@ module _ (t : List ℕ) (at : TextPlace) where
   end-none [] h s = cc (stands-end t (at .0) h)
   end-none (c ∷ cs) h s = ap (wordSeen t at) (h .0) ∙ cc
 
-  pub word-none : (cs : List ℕ) → Stands t (at .0) cs → Stops isStart cs → wordRead t at ≡ record { word = rangeOf at at; fault = Fault.Clean }
+  pub word-none : (cs : List ℕ) → Stands t (at .0) cs → Stops isStart cs → wordRead t at ≡ record { word = rangeOf at at; flaw = Flaw.Clean }
   unfolding wordRead isUnderscore pick
   word-none cs h s =
       cc (end-none cs h s, ne-eqb (at .0) (at .0 + 1) (omega arith), both-false (isAt t at 0x5F))
@@ -96,7 +101,7 @@ module _ (t : List ℕ) (at : TextPlace) where
   unfoldable pub wordOf : ℕ → List ℕ → WordRead
   wordOf c r =
       let end = place (at .0 + size (c ∷ r)) in
-      record { word = rangeOf at end; fault = pick (okWord c r) Fault.Clean (Fault.Underscore (rangeOf at end)) }
+      record { word = rangeOf at end; flaw = pick (okWord c r) Flaw.Clean (Flaw.Underscore (rangeOf at end)) }
 
   pub word-some : (c : ℕ) (cs : List ℕ) → Stands t (at .0) (c ∷ cs) → isStart c ≡ true → wordRead t at ≡ wordOf c (takeW isContinue cs)
   unfolding wordRead wordOf
@@ -104,7 +109,7 @@ module _ (t : List ℕ) (at : TextPlace) where
       cc (
         end-some c cs h s,
         underscore c cs (takeW isContinue cs) h,
-        pick-not (okWord c (takeW isContinue cs)) (Fault.Underscore (rangeOf at (place (at .0 + size (c ∷ takeW isContinue cs))))) Fault.Clean,
+        pick-not (okWord c (takeW isContinue cs)) (Flaw.Underscore (rangeOf at (place (at .0 + size (c ∷ takeW isContinue cs))))) Flaw.Clean,
       )
 
 -- NUMBERS
@@ -121,7 +126,7 @@ over-not n =
 
 module _ (t : List ℕ) (at : TextPlace) where
   pub number-none : (cs : List ℕ) → Stands t (at .0) cs → Stops isDigit cs →
-      numberRead t at ≡ record { number = Number.Nothing; digits = rangeOf at at; fault = Fault.Clean }
+      numberRead t at ≡ record { number = Number.Nothing; digits = rangeOf at at; flaw = Flaw.Clean }
   unfolding numberRead numberFrom pick size
   number-none cs h s =
       rw (run-none isDigit t (at .0) cs h s, eq-eqb (at .0) (at .0) refl)
@@ -132,7 +137,7 @@ module _ (t : List ℕ) (at : TextPlace) where
       record {
         number = Number.Given (value 0 (d ∷ ds) % 65536);
         digits = rangeOf at end;
-        fault = pick (okNumber d ds) Fault.Clean (Fault.TooLarge (rangeOf at end));
+        flaw = pick (okNumber d ds) Flaw.Clean (Flaw.TooLarge (rangeOf at end));
       }
 
   taken : (d : ℕ) (cs : List ℕ) → isDigit d ≡ true → takeW isDigit (d ∷ cs) ≡ d ∷ takeW isDigit cs
@@ -150,7 +155,7 @@ module _ (t : List ℕ) (at : TextPlace) where
       cc (
         ne-eqb (at .0) (at .0 + (wide d + size ds)) (omega (arith, wide-some d)),
         over-not v,
-        pick-not (leb v 65535) (Fault.TooLarge (rangeOf at (place (at .0 + size (d ∷ ds))))) Fault.Clean,
+        pick-not (leb v 65535) (Flaw.TooLarge (rangeOf at (place (at .0 + size (d ∷ ds))))) Flaw.Clean,
       )
 
 -- a number up to 65,535 is kept
@@ -163,10 +168,10 @@ module _ (t : List ℕ) (f : Frame) where
   -- what a count comes to at a place, beside what the parser takes there
   pub record CountSame (at : TextPlace) (g : Got Width) (r : CountRead) : Type 0 where
     pub stands : Stands t (r .at .0) (g .rest)
-    pub clean : isClean (r .fault) ≡ g .ok
-    pub found : g .ok ≡ true → IsWidth (at .0) (g .val) (r .count)
+    pub clean : flawless (r .flaw) ≡ g .ok
+    pub found : g .ok ≡ true → r .count ≡ countOf (f .quote) (at .0) (g .val)
 
-  number-count : (at : TextPlace) (d : ℕ) (ds u : List ℕ) (x : Fault) (e : TextPlace) → isClean x ≡ okNumber d ds → Stands t (e .0) u →
+  number-count : (at : TextPlace) (d : ℕ) (ds u : List ℕ) (x : Flaw) (e : TextPlace) → flawless x ≡ okNumber d ds → Stands t (e .0) u →
       CountSame at (numberOf d ds u) (numberCount t (value 0 (d ∷ ds) % 65536) e x)
   unfolding numberOf numberCount pick
   number-count at d ds [] x e k h =
@@ -183,19 +188,19 @@ module _ (t : List ℕ) (f : Frame) where
   unfolding nameOf wordOf pick
   name-count at c r [] cs h k =
       let e : TextPlace = place (at .0 + size (c ∷ r)) in
-      let w = clean-pick (okWord c r) (Fault.Underscore (rangeOf at e)) refl in
+      let w = clean-pick (okWord c r) (Flaw.Underscore (rangeOf at e)) refl in
       rw (not-empty at c r, consume-no t e 0x24 [] k refl) (record { stands = h; clean = w; found = λ z. refl })
   name-count at c r (d ∷ u) cs h k =
       let e : TextPlace = place (at .0 + size (c ∷ r)) in
-      let w = clean-pick (okWord c r) (Fault.Underscore (rangeOf at e)) refl in
+      let w = clean-pick (okWord c r) (Flaw.Underscore (rangeOf at e)) refl in
       caseB (eqb d 0x24)
       (λ l.
       rw (not-empty at c r, consume-yes t e 0x24 (d ∷ u) k l, l, nameOf)
-      (record { stands = past-ascii t (e .0) 0x24 d u (omega arith) k l; clean = w; found = λ z. (spanBetween t f at e, refl) }))
+      (record { stands = past-ascii t (e .0) 0x24 d u (omega arith) k l; clean = w; found = λ z. ap (Count.ByName (rangeOf at e)) (between t f at e (omega arith) (seen-in t (e .0) (k .0))) }))
       (λ l. rw (not-empty at c r, consume-no t e 0x24 (d ∷ u) k l, l, nameOf) (record { stands = h; clean = w; found = λ z. refl }))
 
   no-count : (at : TextPlace) (cs : List ℕ) → Stands t (at .0) cs → Stops isDigit cs → Stops isStart cs →
-      countRead t f at ≡ counted Count.Implied at Fault.Clean
+      countRead t f at ≡ counted Count.Implied at Flaw.Clean
   unfolding countRead nameCount pick
   no-count at cs h d s = cc (number-none t at cs h d, word-none t at cs h s, empty at)
 
@@ -208,8 +213,8 @@ module _ (t : List ℕ) (f : Frame) where
       let ds : List ℕ = takeW isDigit cs in
       let e : TextPlace = place (at .0 + size (c ∷ ds)) in
       rw (number-some t at c cs h k, k, widthOf)
-      (number-count at c ds (dropW isDigit cs) (pick (okNumber c ds) Fault.Clean (Fault.TooLarge (rangeOf at e))) e
-      (clean-pick (okNumber c ds) (Fault.TooLarge (rangeOf at e)) refl) (past-word t at isDigit c cs h)))
+      (number-count at c ds (dropW isDigit cs) (pick (okNumber c ds) Flaw.Clean (Flaw.TooLarge (rangeOf at e))) e
+      (clean-pick (okNumber c ds) (Flaw.TooLarge (rangeOf at e)) refl) (past-word t at isDigit c cs h)))
       (λ k.
       caseB (isStart c)
       (λ l.

@@ -1,6 +1,6 @@
 -- `quick::ends_spec` meets its contract: it is the definition, test by test.
 use borrow.Author.Tests.{eq-eqb, ne-eqb}
-use Rattle.unicode.specs.Choice.{pick}
+use Rattle.utf8.specs.Choice.{pick}
 use Rattle.quick.specs.PartsTold.{endsByte}
 use Rattle.quick.proofs.ends_spec.Statement.{statement}
 use Rattle.quick.proofs.ends_spec.Tie as tie

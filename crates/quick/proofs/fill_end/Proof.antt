@@ -2,7 +2,7 @@
 use borrow.Author.Needs.{needs}
 use mathlib.Core.Path.{sym, _∙_, ap}
 use native.Mathlib.Omega.{arith}
-use Rattle.unicode.specs.CharLaws.{peeked}
+use Rattle.utf8.specs.CharLaws.{peeked}
 use Rattle.quick.specs.PartsTold.{alignByte}
 use Rattle.quick.proofs.Parts.{fill-some, fill-none, fill-end}
 use Rattle.quick.proofs.fill_end.Statement.{statement}

@@ -2,7 +2,7 @@
 use borrow.Author.Needs.{needs}
 use mathlib.Core.Path.{sym, _∙_}
 use borrow.Author.Tests.{eq-eqb, ne-eqb, le-leb, lt-leb}
-use Rattle.unicode.specs.Choice.{pick}
+use Rattle.utf8.specs.Choice.{pick}
 use Rattle.quick.specs.PartsTold.{hintOf}
 use Rattle.quick.proofs.Endings.{brace-silent}
 use Rattle.quick.proofs.hint_at.Statement.{statement}

@@ -1,6 +1,6 @@
 -- `quick::is_align` meets its contract: it is the definition, test by test.
 use borrow.Author.Tests.{eq-eqb, ne-eqb}
-use Rattle.unicode.specs.Choice.{pick}
+use Rattle.utf8.specs.Choice.{pick}
 use Rattle.quick.specs.PartsTold.{alignByte}
 use Rattle.quick.proofs.is_align.Statement.{statement}
 use Rattle.quick.proofs.is_align.Tie as tie

@@ -1,6 +1,6 @@
 -- `quick::is_digit` meets its contract: it is the definition, test by test.
 use borrow.Author.Tests.{le-leb, lt-leb}
-use Rattle.unicode.specs.Choice.{within}
+use Rattle.utf8.specs.Choice.{within}
 use Rattle.scan.specs.Words.{isDigit}
 use Rattle.quick.proofs.is_digit.Statement.{statement}
 use Rattle.quick.proofs.is_digit.Tie as tie

@@ -1,6 +1,6 @@
 -- `quick::onward` meets its contract: it is the definition, sign by sign.
 use borrow.Author.Needs.{needs}
-use Rattle.unicode.specs.Choice.{pick}
+use Rattle.utf8.specs.Choice.{pick}
 use Rattle.quick.specs.PartsTold.{onwardOf}
 use Rattle.quick.proofs.onward.Statement.{statement}
 use Rattle.quick.proofs.onward.Tie as tie

@@ -37,8 +37,8 @@ width-requires c κs =
 precision-requires : tie.Need-precision-requires
 precision-requires c κs = search needs
 
-kind-at-requires : tie.Need-kind-at-requires
-kind-at-requires c κs =
+type-at-requires : tie.Need-type-at-requires
+type-at-requires c κs =
     let w = c .before .before in
     (record { within = c .precision .ensures .inside; small = w .before .before .before .before .before .before .before .pre .small }, w .word-end .ensures)
 
@@ -51,7 +51,7 @@ returns c =
     let ha = wi .before .before .before in
     let m = marks (ha .before .before .read-align .ensures) (ha .before .read-sign .ensures) (ha .consume .ensures) (wi .before .before .consume2 .ensures) in
     spec-known m (ha .before .before .before .fill-end .ensures) (wi .width .ensures) (c .before .before .precision .ensures)
-    (c .before .kind-at .ensures) (c .all-told .ensures)
+    (c .before .type-at .ensures) (c .all-told .ensures)
 
 pub spec-spec : {M : Type 1} → statement M
 spec-spec =
@@ -65,6 +65,6 @@ spec-spec =
     word-end-requires
     width-requires
     precision-requires
-    kind-at-requires
+    type-at-requires
     all-told-requires
     returns)

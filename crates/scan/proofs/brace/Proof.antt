@@ -1,7 +1,7 @@
 -- `scan::brace` meets its contract: each way out rewrites with its tests.
 use native.Mathlib.Omega.{arith}
 use borrow.Author.Tests.{eq-eqb, ne-eqb}
-use Rattle.unicode.specs.Choice.{pick}
+use Rattle.utf8.specs.Choice.{pick}
 use Rattle.scan.specs.Characters.{isPlain}
 use Rattle.scan.proofs.brace.Statement.{statement}
 use Rattle.scan.proofs.brace.Tie as tie

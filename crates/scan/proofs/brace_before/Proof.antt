@@ -8,9 +8,9 @@ use native.Mathlib.Omega.{arith}
 use borrow.Author.Tests.{not-true, not-false}
 use lib.ListN.{length}
 use denote.Ref.{now}
-use Rattle.unicode.specs.Chars.{runEnd}
-use Rattle.unicode.specs.CharLaws.{past-end, run-end, byte-more, byte-stop}
-use Rattle.unicode.specs.BlockLaws.{one-none, one-some}
+use Rattle.utf8.specs.Chars.{runEnd}
+use Rattle.utf8.specs.CharLaws.{past-end, run-end, byte-more, byte-stop}
+use Rattle.utf8.specs.BlockLaws.{one-none, one-some}
 use Rattle.scan.specs.Characters.{isPlain}
 use Rattle.scan.specs.ScanLaws.{plain-high}
 use Rattle.scan.proofs.brace_before.Statement.{statement}

@@ -1,7 +1,7 @@
 -- `scan::braces` meets its contract: the eight answers are the block's, one by one, and each is at most 1.
 use borrow.Author.Needs.{needs}
 use native.Mathlib.Omega.{arith}
-use Rattle.unicode.specs.BlockLaws.{eight}
+use Rattle.utf8.specs.BlockLaws.{eight}
 use Rattle.scan.specs.Characters.{isBrace}
 use Rattle.scan.proofs.braces.Statement.{statement}
 use Rattle.scan.proofs.braces.Tie as tie

@@ -3,7 +3,7 @@ use borrow.Author.Needs.{needs}
 use mathlib.Core.Path.{_∙_}
 use borrow.Author.Tests.{eq-eqb, ne-eqb}
 use denote.Ref.{now}
-use Rattle.unicode.specs.Choice.{pick}
+use Rattle.utf8.specs.Choice.{pick}
 use Rattle.scan.specs.Characters.{consumed}
 use Rattle.scan.specs.ScanLaws.{is-at-byte, is-at-end}
 use Rattle.scan.proofs.consume.Statement.{statement}

@@ -2,7 +2,7 @@
 use borrow.Author.Needs.{needs}
 use mathlib.Core.Path.{sym, _∙_}
 use native.Mathlib.Omega.{arith}
-use Rattle.unicode.specs.CharLaws.{peeked}
+use Rattle.utf8.specs.CharLaws.{peeked}
 use Rattle.scan.specs.Ends.{endOf}
 use Rattle.scan.proofs.end_of.Statement.{statement}
 use Rattle.scan.proofs.end_of.Tie as tie

@@ -7,9 +7,9 @@ use mathlib.Core.Bool.{true}
 use native.Mathlib.Omega.{arith}
 use lib.ListN.{length}
 use denote.Ref.{now}
-use Rattle.unicode.specs.Choice.{within}
-use Rattle.unicode.specs.ChoiceLaws.{within-low, within-high}
-use Rattle.unicode.specs.CharLaws.{Peeked, peeked}
+use Rattle.utf8.specs.Choice.{within}
+use Rattle.utf8.specs.ChoiceLaws.{within-low, within-high}
+use Rattle.utf8.specs.CharLaws.{Peeked, peeked}
 use Rattle.scan.specs.Words.{isDigit, noted, numberRead}
 use Rattle.scan.proofs.Numbers.{rest, rest-all, rest-more, rest-stop, rest-end}
 use Rattle.scan.proofs.integer.Statement.{statement}

@@ -1,6 +1,6 @@
 -- `scan::is_digit` meets its contract: each way out rewrites with its tests.
 use borrow.Author.Tests.{le-leb, lt-leb}
-use Rattle.unicode.specs.Choice.{within}
+use Rattle.utf8.specs.Choice.{within}
 use Rattle.scan.specs.Words.{isDigit}
 use Rattle.scan.proofs.is_digit.Statement.{statement}
 use Rattle.scan.proofs.is_digit.Tie as tie

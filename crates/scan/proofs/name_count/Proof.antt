@@ -1,6 +1,6 @@
 -- `scan::name_count` meets its contract: it is the definition, call by call.
 use borrow.Author.Needs.{needs}
-use Rattle.unicode.specs.Choice.{pick}
+use Rattle.utf8.specs.Choice.{pick}
 use Rattle.scan.specs.Counts.{nameCount}
 use Rattle.scan.proofs.name_count.Statement.{statement}
 use Rattle.scan.proofs.name_count.Tie as tie

@@ -1,6 +1,6 @@
 -- `scan::number_of` meets its contract: it is the definition, test by test.
 use borrow.Author.Tests.{eq-eqb, ne-eqb}
-use Rattle.unicode.specs.Choice.{pick}
+use Rattle.utf8.specs.Choice.{pick}
 use Rattle.scan.specs.Words.{numberFrom}
 use Rattle.scan.proofs.number_of.Statement.{statement}
 use Rattle.scan.proofs.number_of.Tie as tie

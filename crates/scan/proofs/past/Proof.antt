@@ -3,7 +3,7 @@ use borrow.Author.Needs.{needs}
 use mathlib.Core.Path.{sym, _∙_}
 use native.Mathlib.Nat.{add-zero}
 use native.Mathlib.Omega.{arith}
-use Rattle.unicode.specs.CharLaws.{peeked}
+use Rattle.utf8.specs.CharLaws.{peeked}
 use Rattle.scan.specs.Characters.{pastAt}
 use Rattle.scan.proofs.past.Statement.{statement}
 use Rattle.scan.proofs.past.Tie as tie

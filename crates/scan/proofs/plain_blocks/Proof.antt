@@ -5,8 +5,8 @@ use mathlib.Core.Path.{_≡_, refl, _∙_}
 use native.Mathlib.Omega.{arith}
 use lib.ListN.{length}
 use denote.Ref.{now}
-use Rattle.unicode.specs.Chars.{runEnd}
-use Rattle.unicode.specs.BlockLaws.{how-many-add, run-block}
+use Rattle.utf8.specs.Chars.{runEnd}
+use Rattle.utf8.specs.BlockLaws.{how-many-add, run-block}
 use Rattle.scan.specs.Characters.{isPlain, isBrace}
 use Rattle.scan.specs.ScanLaws.{plain-high}
 use Rattle.scan.proofs.plain_blocks.Statement.{statement}

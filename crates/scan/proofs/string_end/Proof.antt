@@ -3,7 +3,7 @@
 use mathlib.Core.Path.{sym, _∙_, ap}
 use native.Mathlib.Omega.{arith}
 use denote.Ref.{now}
-use Rattle.unicode.specs.CharLaws.{past-end, run-end}
+use Rattle.utf8.specs.CharLaws.{past-end, run-end}
 use Rattle.frame.specs.Places.{place}
 use Rattle.scan.specs.Characters.{isPlain, textEnd}
 use Rattle.scan.proofs.string_end.Statement.{statement}

@@ -3,8 +3,8 @@
 use borrow.Author.Needs.{needs}
 use mathlib.Core.Path.{sym, _∙_}
 use native.Mathlib.Omega.{arith}
-use Rattle.unicode.specs.Choice.{pick}
-use Rattle.unicode.specs.CharLaws.{peeked}
+use Rattle.utf8.specs.Choice.{pick}
+use Rattle.utf8.specs.CharLaws.{peeked}
 use Rattle.scan.specs.Words.{wordEnd}
 use Rattle.scan.proofs.word_end.Statement.{statement}
 use Rattle.scan.proofs.word_end.Tie as tie

@@ -1,4 +1,4 @@
--- `scan::ws` meets its contract: the whitespace ends where `unicode` says.
+-- `scan::ws` meets its contract: the whitespace ends where `utf8` says.
 use borrow.Author.Needs.{needs}
 use mathlib.Core.Path.{ap}
 use Rattle.frame.specs.Places.{place}

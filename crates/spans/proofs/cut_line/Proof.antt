@@ -1,7 +1,7 @@
 -- `spans::cut_line` meets its contract: the two tests are the definition's.
 use borrow.Author.Needs.{needs}
 use borrow.Author.Tests.{eq-eqb, ne-eqb}
-use Rattle.unicode.specs.Choice.{pick}
+use Rattle.utf8.specs.Choice.{pick}
 use Rattle.reading.specs.Lines.{cut}
 use Rattle.spans.proofs.cut_line.Statement.{statement}
 use Rattle.spans.proofs.cut_line.Tie as tie

@@ -1,6 +1,5 @@
 -- `spans::fill_lines` meets its contract. The invariant: with the lines that the steps left still have the list is as it is to be.
 -- The measure is how many steps are left.
-use Prim.Native.Nat.{_+_, _*_, _≤_}
 use borrow.Author.Needs.{needs}
 use borrow.Author.Tests.{not-true, not-false}
 use native.Mathlib.Omega.{arith}
@@ -8,13 +7,13 @@ use mathlib.Core.Path.{refl, sym, ap, _∙_}
 use mathlib.Core.List.{[], append-nil}
 use denote.Ref.{now}
 use Rattle.reading.specs.Steps.{stepsFrom, reading}
-use Rattle.reading.specs.StepLaws.{steps-none}
+use Rattle.laws.specs.StepLaws.{steps-none}
 use Rattle.reading.specs.Lists.{lines}
 use Rattle.reading.specs.Written.{over, pairs}
 use Rattle.spans.specs.Fills.{lastOf}
-use Rattle.reading.specs.WalkLaws.{step-next}
+use Rattle.laws.specs.WalkLaws.{Kept, kept-start, kept-on}
 use Rattle.spans.proofs.Filling.{Going, going-first, going-done, going-room, going-on, put-over}
-use Rattle.reading.specs.ListLaws.{no-lines}
+use Rattle.laws.specs.ListLaws.{no-lines}
 use Rattle.spans.proofs.Lining.{linesLeft, lines-left-none, step-room, step-written, lines-all}
 use Rattle.spans.proofs.fill_lines.Statement.{statement}
 use Rattle.spans.proofs.fill_lines.Tie as tie
@@ -22,7 +21,7 @@ use Rattle.spans.proofs.fill_lines.Tie as tie
 abbrev Inv-loop : tie.InvT-loop
 Inv-loop text frame mode out₀ state₀ run₀ left₀ out state run left =
     Going out₀ 0 (lines text frame mode) out (run .count) (linesLeft text frame (run .line) (stepsFrom left text frame mode state))
-    × (state .next + 4 * left ≤ 0x40000)
+    × Kept left state
 
 abbrev μ-loop : tie.MeasureT-loop
 μ-loop text frame mode out₀ state₀ run₀ left₀ out state run left = left
@@ -45,11 +44,11 @@ loop-holds c =
     let s = c .before .before .before .before .before in
     let a = s .args in (
       rw (lines-all (now (a .text)) (a .frame) (a .mode) (not-false (a .frame .literal) (c .before .if1 .left)) (c .to-snippet .ensures)) (going-first _ _ _),
-      omega (arith, s .pre .0 .text),
+      kept-start (now (a .text)) (s .pre .0 .text),
     )
 
 step-at-requires : tie.Need-step-at-requires Inv-loop μ-loop
-step-at-requires c κs = (c .before .before .before .before .before .before .before .pre .0, omega (arith, c .before .loop .inv .1))
+step-at-requires c κs = (c .before .before .before .before .before .before .before .pre .0, omega (arith, c .before .loop .inv .1 .next))
 
 put-step-requires : tie.Need-put-step-requires Inv-loop μ-loop
 put-step-requires c κs =
@@ -119,7 +118,7 @@ loop-again c =
       rw on at
           (step-written (now (a .text)) (a .frame) (a .mode) (l .state) step (l .left) (c .before .before .before .before .before .before .before .before .before .loop-test .taken) (l .run) (omega (arith, s .pre .1))
           (l .inv .0) (c .before .before .before .before .before .before .put-step .ensures)),
-      omega (arith, l .inv .1, c .before .before .before .before .before .before .before .before .before .loop-test .taken, step-next (now (a .text)) (a .frame) (a .mode) (l .state) step on),
+      kept-on (now (a .text)) (a .frame) (a .mode) (l .state) step (l .left) (c .before .before .before .before .before .before .before .before .before .loop-test .taken) on (l .inv .1),
     )
 
 same-length-2 : tie.Need-same-length-2 Inv-loop μ-loop

@@ -1,6 +1,5 @@
 -- `spans::fill_places` meets its contract. The invariant: with the argument places of the steps that are left the list is as it is
 -- to be. The measure is how many steps are left.
-use Prim.Native.Nat.{_+_, _*_, _≤_}
 use borrow.Author.Needs.{needs}
 use borrow.Author.Tests.{not-true, not-false}
 use native.Mathlib.Omega.{arith}
@@ -8,12 +7,12 @@ use mathlib.Core.Path.{refl, sym, ap, _∙_}
 use mathlib.Core.List.{[]}
 use denote.Ref.{now}
 use Rattle.reading.specs.Steps.{stepsFrom, reading}
-use Rattle.reading.specs.StepLaws.{steps-none}
+use Rattle.laws.specs.StepLaws.{steps-none}
 use Rattle.reading.specs.Lists.{gather, placesOf, places}
 use Rattle.reading.specs.Written.{over, pairs}
-use Rattle.reading.specs.WalkLaws.{step-next}
+use Rattle.laws.specs.WalkLaws.{Kept, kept-start, kept-on}
 use Rattle.spans.proofs.Filling.{Going, going-first, going-done, going-room, going-on, put-over}
-use Rattle.reading.specs.ListLaws.{no-places}
+use Rattle.laws.specs.ListLaws.{no-places}
 use Rattle.spans.proofs.Lining.{places-some, places-all}
 use Rattle.spans.proofs.fill_places.Statement.{statement}
 use Rattle.spans.proofs.fill_places.Tie as tie
@@ -21,7 +20,7 @@ use Rattle.spans.proofs.fill_places.Tie as tie
 abbrev Inv-loop : tie.InvT-loop
 Inv-loop text frame mode out₀ state₀ n₀ left₀ out state n left =
     Going out₀ 0 (places text frame mode) out n (gather (placesOf text frame) (stepsFrom left text frame mode state))
-    × (state .next + 4 * left ≤ 0x40000)
+    × Kept left state
 
 abbrev μ-loop : tie.MeasureT-loop
 μ-loop text frame mode out₀ state₀ n₀ left₀ out state n left = left
@@ -41,11 +40,11 @@ loop-holds c =
     let s = c .before .before .before .before in
     let a = s .args in (
       rw (places-all (now (a .text)) (a .frame) (a .mode) (not-false (a .frame .literal) (c .if1 .left))) (going-first _ _ _),
-      omega (arith, s .pre .0 .text),
+      kept-start (now (a .text)) (s .pre .0 .text),
     )
 
 step-at-requires : tie.Need-step-at-requires Inv-loop μ-loop
-step-at-requires c κs = (c .before .before .before .before .before .before .pre .0, omega (arith, c .before .loop .inv .1))
+step-at-requires c κs = (c .before .before .before .before .before .before .pre .0, omega (arith, c .before .loop .inv .1 .next))
 
 put-place-requires : tie.Need-put-place-requires Inv-loop μ-loop
 put-place-requires c κs =
@@ -97,7 +96,7 @@ loop-again c =
     let on = sym (c .before .before .before .go-on .ensures) ∙ c .before .after .given .1 in (
       going-on (l .inv .0) (placesOf (now (a .text)) (a .frame) (c .before .before .before .before .before .before .before .before .step-at .result)) _ (rw on at all) (omega (arith, s .pre .1))
           (c .before .before .before .before .before .before .put-place .ensures),
-      omega (arith, l .inv .1, c .before .before .before .before .before .before .before .before .before .loop-test .taken, step-next (now (a .text)) (a .frame) (a .mode) (l .state) step on),
+      kept-on (now (a .text)) (a .frame) (a .mode) (l .state) step (l .left) (c .before .before .before .before .before .before .before .before .before .loop-test .taken) on (l .inv .1),
     )
 
 same-length-2 : tie.Need-same-length-2 Inv-loop μ-loop

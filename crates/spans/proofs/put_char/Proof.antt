@@ -2,7 +2,7 @@
 use borrow.Author.Needs.{needs}
 use borrow.Author.Tests.{eq-eqb, ne-eqb}
 use denote.Ref.{now}
-use Rattle.unicode.specs.Chars.{ch}
+use Rattle.utf8.specs.Chars.{ch}
 use Rattle.spans.proofs.Lining.{newline-room, newline-put, other-put}
 use Rattle.spans.proofs.put_char.Statement.{statement}
 use Rattle.spans.proofs.put_char.Tie as tie

@@ -2,7 +2,7 @@
 use borrow.Author.Needs.{needs}
 use mathlib.Core.Path.{sym}
 use denote.Ref.{now}
-use Rattle.unicode.specs.Choice.{pick}
+use Rattle.utf8.specs.Choice.{pick}
 use Rattle.spans.proofs.Filling.{written-none}
 use Rattle.spans.proofs.put_last.Statement.{statement}
 use Rattle.spans.proofs.put_last.Tie as tie

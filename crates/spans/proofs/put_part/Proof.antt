@@ -6,10 +6,10 @@ use native.Mathlib.Omega.{arith}
 use mathlib.Core.Path.{sym, _∙_}
 use mathlib.Core.List.{[], _∷_}
 use denote.Ref.{now}
-use Rattle.unicode.specs.Chars.{ch, charsFrom}
-use Rattle.unicode.specs.CharLaws.{peeked}
+use Rattle.utf8.specs.Chars.{ch, charsFrom}
+use Rattle.utf8.specs.CharLaws.{peeked}
 use Rattle.reading.specs.Lines.{before, charsIn}
-use Rattle.reading.specs.LineLaws.{before-more, before-past, before-end}
+use Rattle.laws.specs.LineLaws.{before-more, before-past, before-end}
 use Rattle.spans.proofs.Lining.{Lining, lining-first, lining-done, lining-room, lining-on}
 use Rattle.spans.proofs.put_part.Statement.{statement}
 use Rattle.spans.proofs.put_part.Tie as tie

@@ -1,32 +1,32 @@
 -- The five counts add up, and each is 0 or 1.
 use native.Mathlib.Omega.{arith}
-use Rattle.reading.specs.FaultLaws.{argument-count}
+use Rattle.laws.specs.FaultLaws.{argument-count}
 use Rattle.tally.proofs.argument_count.Statement.{statement}
 use Rattle.tally.proofs.argument_count.Tie as tie
 
-one-requires : tie.Need-one-requires
-one-requires c κs = tt
+flaw-count-requires : tie.Need-flaw-count-requires
+flaw-count-requires c κs = tt
 
-one-requires-2 : tie.Need-one-requires-2
-one-requires-2 c κs = tt
+flaw-count-requires-2 : tie.Need-flaw-count-requires-2
+flaw-count-requires-2 c κs = tt
 
 add-result : tie.Need-add-result
 add-result c = omega arith
 
-one-requires-3 : tie.Need-one-requires-3
-one-requires-3 c κs = tt
+flaw-count-requires-3 : tie.Need-flaw-count-requires-3
+flaw-count-requires-3 c κs = tt
 
 add-result-2 : tie.Need-add-result-2
 add-result-2 c = omega arith
 
-one-requires-4 : tie.Need-one-requires-4
-one-requires-4 c κs = tt
+flaw-count-requires-4 : tie.Need-flaw-count-requires-4
+flaw-count-requires-4 c κs = tt
 
 add-result-3 : tie.Need-add-result-3
 add-result-3 c = omega arith
 
-one-requires-5 : tie.Need-one-requires-5
-one-requires-5 c κs = tt
+flaw-count-requires-5 : tie.Need-flaw-count-requires-5
+flaw-count-requires-5 c κs = tt
 
 add-result-4 : tie.Need-add-result-4
 add-result-4 c = omega arith
@@ -35,11 +35,11 @@ returns : tie.Need-returns
 returns c = (
   rw (
     argument-count,
-    ← c .before .before .before .before .one .ensures .0,
-    ← c .before .before .before .one2 .ensures .0,
-    ← c .before .before .one3 .ensures .0,
-    ← c .before .one4 .ensures .0,
-    ← c .one5 .ensures .0,
+    ← c .before .before .before .before .flaw-count .ensures .0,
+    ← c .before .before .before .flaw-count2 .ensures .0,
+    ← c .before .before .flaw-count3 .ensures .0,
+    ← c .before .flaw-count4 .ensures .0,
+    ← c .flaw-count5 .ensures .0,
   ),
   omega arith,
 )
@@ -48,13 +48,13 @@ pub argument-count-spec : {M : Type 1} → statement M
 argument-count-spec =
     tie.close
     (tie.spec
-    one-requires
-    one-requires-2
+    flaw-count-requires
+    flaw-count-requires-2
     add-result
-    one-requires-3
+    flaw-count-requires-3
     add-result-2
-    one-requires-4
+    flaw-count-requires-4
     add-result-3
-    one-requires-5
+    flaw-count-requires-5
     add-result-4
     returns)

@@ -1,6 +1,6 @@
 -- By the step: the end and a literal have no fault, a lone `}` has one, a placeholder its own.
 use native.Mathlib.Omega.{arith}
-use Rattle.unicode.specs.Choice.{pick}
+use Rattle.utf8.specs.Choice.{pick}
 use Rattle.reading.specs.Faults.{wrong, stepSlots, faultsOf}
 use Rattle.tally.proofs.fault_count.Statement.{statement}
 use Rattle.tally.proofs.fault_count.Tie as tie

@@ -1,14 +1,12 @@
--- The counts of the slots add up.
+-- The counts of the slots add up, and the missing brace is one.
 use native.Mathlib.Omega.{arith}
-use Rattle.reading.specs.FaultLaws.{missing-count}
+use Rattle.laws.specs.FaultLaws.{missing-count}
+use Rattle.laws.specs.RoomLaws.{wrong-gap-one}
 use Rattle.tally.proofs.missing_count.Statement.{statement}
 use Rattle.tally.proofs.missing_count.Tie as tie
 
-one-requires : tie.Need-one-requires
-one-requires c κs = tt
-
-one-requires-2 : tie.Need-one-requires-2
-one-requires-2 c κs = tt
+flaw-count-requires : tie.Need-flaw-count-requires
+flaw-count-requires c κs = tt
 
 add-result : tie.Need-add-result
 add-result c = omega arith
@@ -19,8 +17,8 @@ argument-count-requires c κs = tt
 add-result-2 : tie.Need-add-result-2
 add-result-2 c = omega arith
 
-one-requires-3 : tie.Need-one-requires-3
-one-requires-3 c κs = tt
+hint-count-requires : tie.Need-hint-count-requires
+hint-count-requires c κs = tt
 
 add-result-3 : tie.Need-add-result-3
 add-result-3 c = omega arith
@@ -29,14 +27,15 @@ returns : tie.Need-returns
 returns c = (
   rw (
     missing-count,
-    ← c .before .before .before .one .ensures .0,
-    ← c .before .before .one2 .ensures .0,
+    wrong-gap-one,
+    ← c .before .before .flaw-count .ensures .0,
     ← c .before .argument-count .ensures .0,
-    ← c .one3 .ensures .0,
+    ← c .hint-count .ensures .0,
   ),
   omega arith,
 )
 
 pub missing-count-spec : {M : Type 1} → statement M
 missing-count-spec =
-    tie.close (tie.spec one-requires one-requires-2 add-result argument-count-requires add-result-2 one-requires-3 add-result-3 returns)
+    tie.close
+    (tie.spec flaw-count-requires add-result argument-count-requires add-result-2 hint-count-requires add-result-3 returns)

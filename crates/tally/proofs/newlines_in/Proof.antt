@@ -7,12 +7,12 @@ use mathlib.Core.Logic.{⊎-elim}
 use native.Mathlib.Omega.{arith}
 use lib.ListN.{length}
 use denote.Ref.{now}
-use Rattle.unicode.specs.Utf8.{peekAt}
-use Rattle.unicode.specs.Chars.{charsFrom}
-use Rattle.unicode.specs.CharLaws.{peeked}
-use Rattle.unicode.specs.declared.Seen.the-variants.{Char}
+use Rattle.utf8.specs.Utf8.{peekAt}
+use Rattle.utf8.specs.Chars.{charsFrom}
+use Rattle.utf8.specs.CharLaws.{peeked}
+use Rattle.utf8.specs.declared.Seen.the-variants.{Char}
 use Rattle.reading.specs.Lines.{before, charsIn, newlines}
-use Rattle.reading.specs.LineLaws.{before-past, before-end, newlines-one, newlines-other}
+use Rattle.laws.specs.LineLaws.{before-past, before-end, newlines-one, newlines-other}
 use Rattle.tally.proofs.newlines_in.Statement.{statement}
 use Rattle.tally.proofs.newlines_in.Tie as tie
 

@@ -1,7 +1,7 @@
 -- The argument's faults and those of the end, together.
 use native.Mathlib.Omega.{arith}
 use Rattle.reading.specs.Faults.{stepSlots, faultsOf}
-use Rattle.reading.specs.FaultLaws.{count-++}
+use Rattle.laws.specs.FaultLaws.{count-++}
 use Rattle.tally.proofs.placeholder_count.Statement.{statement}
 use Rattle.tally.proofs.placeholder_count.Tie as tie
 

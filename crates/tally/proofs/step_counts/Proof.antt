@@ -3,8 +3,8 @@
 use borrow.Author.Needs.{needs}
 use borrow.Author.Tests.{not-true, not-false}
 use native.Mathlib.Omega.{arith}
-use Rattle.unicode.specs.Choice.{pick}
-use Rattle.reading.specs.Lists.{stepCounts}
+use Rattle.utf8.specs.Choice.{pick}
+use Rattle.laws.specs.Counting.{stepCounts}
 use Rattle.tally.proofs.CountLaws.{piece-few, place-few}
 use Rattle.tally.proofs.step_counts.Statement.{statement}
 use Rattle.tally.proofs.step_counts.Tie as tie

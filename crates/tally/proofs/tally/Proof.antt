@@ -2,12 +2,15 @@
 -- answer; a turn adds at most 131,070 to each count and four to the next argument's number. The measure is `left`.
 use borrow.Author.Needs.{needs}
 use Prim.Native.Nat.{_+_, _-_, _*_, _≤_}
-use mathlib.Core.Path.{_≡_, _∙_}
+use mathlib.Core.Path.{_≡_, sym, _∙_}
 use native.Mathlib.Omega.{arith}
 use lib.ListN.{length}
+use denote.Ref.{now}
 use Rattle.reading.specs.Steps.{stepsFrom, reading}
-use Rattle.reading.specs.Lists.{countsOf, sum, Countable}
-use Rattle.tally.proofs.CountLaws.{sum-zero, countsIn, counts-all, countable-sum, turn-more, turn-over, turn-none, turn-next}
+use Rattle.reading.specs.Lists.{countsOf}
+use Rattle.laws.specs.Counting.{sum, Countable}
+use Rattle.tally.proofs.CountLaws.{sum-zero, countsIn, counts-all, countable-sum, turn-more, turn-over, turn-none}
+use Rattle.laws.specs.WalkLaws.{Kept, kept-start, kept-on}
 use Rattle.tally.proofs.tally.Statement.{statement}
 use Rattle.tally.proofs.tally.Tie as tie
 
@@ -16,7 +19,7 @@ Inv-loop text frame mode state₀ counts₀ left₀ state counts left =
     (sum counts (countsIn text frame (stepsFrom left text frame mode state)) ≡ countsOf text frame mode)
     × Countable (131070 * (length text + 1 - left)) counts
     × (left ≤ length text + 1)
-    × (state .next ≤ 4 * (length text + 1 - left))
+    × Kept left state
 
 abbrev μ-loop : tie.MeasureT-loop
 μ-loop text frame mode state₀ counts₀ left₀ state counts left = left
@@ -26,12 +29,12 @@ add-left c = omega (arith, c .before .pre)
 
 loop-holds : tie.Need-loop-holds Inv-loop μ-loop
 unfolding reading
-loop-holds c = (sum-zero _ ∙ counts-all _ _ _, omega arith, omega arith, omega arith)
+loop-holds c = (sum-zero _ ∙ counts-all _ _ _, omega arith, omega arith, kept-start (now (c .before .args .text)) (c .before .pre .text))
 
 step-at-requires : tie.Need-step-at-requires Inv-loop μ-loop
 step-at-requires c κs =
     let small = c .before .before .before .pre in
-    (small, omega (arith, small .text, c .before .loop .inv .2, c .before .loop .inv .3))
+    (small, omega (arith, c .before .loop .inv .3 .next))
 
 step-counts-requires : tie.Need-step-counts-requires Inv-loop μ-loop
 step-counts-requires c κs = c .before .before .before .before .pre
@@ -80,7 +83,7 @@ loop-again c =
       turn-more _ _ _ _ _ (loop .counts) more step on (counted .0) added after ∙ loop .inv .0,
       countable-sum (loop .inv .1) (counted .1) added (omega (arith, more, loop .inv .2)),
       omega (arith, loop .inv .2),
-      omega (arith, more, loop .inv .2, loop .inv .3, turn-next _ _ _ (loop .state) step on after),
+      kept-on _ _ _ (loop .state) step (loop .left) more (sym on ∙ after) (loop .inv .3),
     )
 
 returns-2 : tie.Need-returns-2 Inv-loop μ-loop

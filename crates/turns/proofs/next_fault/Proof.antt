@@ -5,7 +5,7 @@ use borrow.Author.Needs.{needs}
 use native.Mathlib.Omega.{arith}
 use mathlib.Core.Path.{_≡_, refl, sym, ap, _∙_}
 use denote.Ref.{now}
-use Rattle.unicode.specs.Choice.{pick}
+use Rattle.utf8.specs.Choice.{pick}
 use Rattle.turns.specs.Turns.{Fresh, faultsAt, notes}
 use Rattle.turns.proofs.Turning.{faults-none, faults-found, faults-over, faults-on, fresh-on, no-more}
 use Rattle.turns.proofs.next_fault.Statement.{statement}

@@ -5,7 +5,7 @@ use Prim.Native.Nat.{_<_}
 use native.Mathlib.Omega.{arith}
 use mathlib.Core.Path.{sym, _∙_}
 use denote.Ref.{now}
-use Rattle.unicode.specs.Choice.{pick}
+use Rattle.utf8.specs.Choice.{pick}
 use Rattle.turns.proofs.Turning.{pieces-none, pieces-over, pieces-on, fresh-on}
 use Rattle.turns.proofs.next_piece.Statement.{statement}
 use Rattle.turns.proofs.next_piece.Tie as tie

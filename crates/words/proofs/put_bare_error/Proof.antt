@@ -2,7 +2,7 @@
 use Prim.Native.Nat.{_*_}
 use borrow.Author.Needs.{needs}
 use denote.Ref.{now}
-use Rattle.words.specs.Layout.{bareError}
+use Rattle.reading.specs.Records.{bareError}
 use Rattle.words.proofs.Wholes.{error-laid}
 use Rattle.words.proofs.put_bare_error.Statement.{statement}
 use Rattle.words.proofs.put_bare_error.Tie as tie

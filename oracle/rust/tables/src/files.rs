@@ -4,8 +4,8 @@ use crate::table::{self, Table};
 use std::fs;
 use std::path::Path;
 
-/// The constants of the crate `unicode`.
-const CONSTANTS: &str = "crates/unicode/src/tables.rt";
+/// The constants of the crate `letters`.
+const CONSTANTS: &str = "crates/letters/src/tables.rt";
 /// The expected output of the program `scalars`.
 const SCALARS: &str = "crates/scalars/stdout";
 /// The ranges of the stand-in for rustc_lexer.
@@ -52,7 +52,7 @@ pub fn check(root: &Path, tables: &[Table]) -> Result<(), String> {
 }
 
 fn definition_file(table: &Table) -> String {
-    format!("crates/unicode/specs/{}.antt", table.file)
+    format!("crates/letters/specs/{}.antt", table.file)
 }
 
 /// The three tables as constants of the crate, a number to a line: the layout that `rt fmt` keeps.

@@ -1,7 +1,7 @@
 -- `answer::decide::admitted` meets its contract: the frame and the mode are the definitions'.
 use borrow.Author.Needs.{needs}
 use mathlib.Core.Path.{refl}
-use Rattle.answer.specs.Answers.{frameFor}
+use Rattle.reading.specs.Answers.{frameFor}
 use Rattle.answer.proofs.decide.admitted.Statement.{statement}
 use Rattle.answer.proofs.decide.admitted.Tie as tie
 

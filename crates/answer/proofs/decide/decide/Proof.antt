@@ -2,7 +2,7 @@
 -- counts say.
 use borrow.Author.Needs.{needs}
 use denote.Ref.{now}
-use Rattle.answer.specs.AnswerLaws.{opened-small}
+use Rattle.answer.specs.DecisionLaws.{opened-small}
 use Rattle.answer.proofs.Decisions.{stays, counts}
 use Rattle.answer.proofs.decide.decide.Statement.{statement}
 use Rattle.answer.proofs.decide.decide.Tie as tie

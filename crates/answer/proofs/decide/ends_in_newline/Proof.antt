@@ -1,8 +1,8 @@
 -- `answer::decide::ends_in_newline` meets its contract: the last byte is asked where there is one.
 use borrow.Author.Needs.{needs}
 use borrow.Author.Tests.{eq-eqb, ne-eqb}
-use Rattle.unicode.specs.Choice.{pick}
-use Rattle.answer.specs.Answers.{endsInNewline}
+use Rattle.utf8.specs.Choice.{pick}
+use Rattle.reading.specs.Answers.{endsInNewline}
 use Rattle.answer.proofs.decide.ends_in_newline.Statement.{statement}
 use Rattle.answer.proofs.decide.ends_in_newline.Tie as tie
 

@@ -1,7 +1,7 @@
 -- `answer::decide::is_long` meets its contract: the tests are the definition's, the text's first.
 use borrow.Author.Tests.{lt-ltb, le-ltb}
-use Rattle.unicode.specs.Choice.{pick}
-use Rattle.answer.specs.Answers.{isLong}
+use Rattle.utf8.specs.Choice.{pick}
+use Rattle.reading.specs.Answers.{isLong}
 use Rattle.answer.proofs.decide.is_long.Statement.{statement}
 use Rattle.answer.proofs.decide.is_long.Tie as tie
 

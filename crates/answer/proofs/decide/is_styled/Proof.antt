@@ -1,6 +1,6 @@
 -- `answer::decide::is_styled` meets its contract: each case of the style answers as the definition's.
 use borrow.Author.Needs.{needs}
-use Rattle.unicode.specs.Choice.{pick}
+use Rattle.utf8.specs.Choice.{pick}
 use Rattle.answer.proofs.decide.is_styled.Statement.{statement}
 use Rattle.answer.proofs.decide.is_styled.Tie as tie
 

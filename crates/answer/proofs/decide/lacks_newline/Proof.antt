@@ -1,7 +1,7 @@
 -- `answer::decide::lacks_newline` meets its contract: the tests are the definition's.
 use borrow.Author.Needs.{needs}
-use Rattle.unicode.specs.Choice.{pick}
-use Rattle.answer.specs.Answers.{lacksNewline}
+use Rattle.utf8.specs.Choice.{pick}
+use Rattle.reading.specs.Answers.{lacksNewline}
 use Rattle.answer.proofs.decide.lacks_newline.Statement.{statement}
 use Rattle.answer.proofs.decide.lacks_newline.Tie as tie
 

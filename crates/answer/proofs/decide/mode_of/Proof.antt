@@ -1,7 +1,7 @@
 -- `answer::decide::mode_of` meets its contract: the tests are the definition's.
 use borrow.Author.Tests.{eq-eqb, ne-eqb}
-use Rattle.unicode.specs.Choice.{pick}
-use Rattle.answer.specs.Answers.{modeOf}
+use Rattle.utf8.specs.Choice.{pick}
+use Rattle.reading.specs.Answers.{modeOf}
 use Rattle.answer.proofs.decide.mode_of.Statement.{statement}
 use Rattle.answer.proofs.decide.mode_of.Tie as tie
 

@@ -4,9 +4,10 @@ use borrow.Author.Needs.{needs}
 use borrow.Author.Tests.{lt-ltb, le-ltb, not-true, not-false}
 use native.Mathlib.Omega.{arith}
 use mathlib.Core.Path.{sym, _∙_}
-use Rattle.unicode.specs.Choice.{pick}
-use Rattle.answer.specs.Answers.{isBroken, openAnswer}
-use Rattle.answer.specs.AnswerLaws.{not-long}
+use Rattle.utf8.specs.Choice.{pick}
+use Rattle.reading.specs.Answers.{isBroken}
+use Rattle.laws.specs.Deciding.{openAnswer}
+use Rattle.laws.specs.AnswerLaws.{not-long}
 use Rattle.answer.proofs.Decisions.{refuses, admits}
 use Rattle.answer.proofs.decide.opened.Statement.{statement}
 use Rattle.answer.proofs.decide.opened.Tie as tie

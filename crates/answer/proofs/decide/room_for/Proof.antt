@@ -1,7 +1,7 @@
 -- `answer::decide::room_for` meets its contract: the tests are the definition's, in its order.
 use borrow.Author.Tests.{lt-ltb, le-ltb}
-use Rattle.unicode.specs.Choice.{pick}
-use Rattle.answer.specs.Answers.{roomFor}
+use Rattle.utf8.specs.Choice.{pick}
+use Rattle.laws.specs.Deciding.{roomFor}
 use Rattle.answer.proofs.decide.room_for.Statement.{statement}
 use Rattle.answer.proofs.decide.room_for.Tie as tie
 

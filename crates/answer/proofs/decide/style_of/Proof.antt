@@ -1,7 +1,7 @@
 -- `answer::decide::style_of` meets its contract: at most 255 hashes fit a byte, and are kept.
 use borrow.Author.Needs.{needs}
 use borrow.Author.Tests.{le-leb, lt-leb}
-use Rattle.unicode.specs.Choice.{pick}
+use Rattle.utf8.specs.Choice.{pick}
 use Rattle.answer.proofs.decide.style_of.Statement.{statement}
 use Rattle.answer.proofs.decide.style_of.Tie as tie
 

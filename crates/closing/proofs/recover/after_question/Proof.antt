@@ -1,7 +1,7 @@
 -- `closing::recover::after_question` meets its contract: it is the definition, test by test: `?}`, then `?:` with its word, then
 -- any other.
 use borrow.Author.Needs.{needs}
-use Rattle.unicode.specs.Choice.{pick}
+use Rattle.utf8.specs.Choice.{pick}
 use Rattle.closing.specs.Recovery.{afterQuestion}
 use Rattle.closing.proofs.recover.after_question.Statement.{statement}
 use Rattle.closing.proofs.recover.after_question.Tie as tie
@@ -22,8 +22,8 @@ consume-requires c κs = search needs
 word-requires : tie.Need-word-requires
 word-requires c κs = search needs
 
-clean-faults-requires : tie.Need-clean-faults-requires
-clean-faults-requires c κs = search needs
+clean-flaws-requires : tie.Need-clean-flaws-requires
+clean-flaws-requires c κs = search needs
 
 returns-2 : tie.Need-returns-2
 unfolding pick afterQuestion
@@ -36,7 +36,7 @@ returns-2 c =
       ← at-consume .consume .ensures,
       at-word .before .if2 .taken,
       ← at-word .word .ensures,
-      ← c .clean-faults .ensures,
+      ← c .clean-flaws .ensures,
     )
 
 passed-to-requires-2 : tie.Need-passed-to-requires-2
@@ -63,7 +63,7 @@ after-question-spec =
     returns
     consume-requires
     word-requires
-    clean-faults-requires
+    clean-flaws-requires
     returns-2
     passed-to-requires-2
     returns-3)

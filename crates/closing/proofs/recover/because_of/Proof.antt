@@ -1,7 +1,7 @@
 -- `closing::recover::because_of` meets its contract: it is the definition by what the fill is.
 use borrow.Author.Needs.{needs}
 use borrow.Author.Tests.{eq-eqb, ne-eqb}
-use Rattle.unicode.specs.Choice.{pick}
+use Rattle.utf8.specs.Choice.{pick}
 use Rattle.closing.proofs.recover.because_of.Statement.{statement}
 use Rattle.closing.proofs.recover.because_of.Tie as tie
 

@@ -2,7 +2,7 @@
 -- and with one that is not, after which reading stands where the field ended.
 use borrow.Author.Needs.{needs}
 use borrow.Author.Tests.{not-true, not-false}
-use Rattle.unicode.specs.Choice.{pick}
+use Rattle.utf8.specs.Choice.{pick}
 use Rattle.scan.specs.ScanLaws.{consumed-none}
 use Rattle.closing.specs.Recovery.{fieldRead}
 use Rattle.closing.proofs.recover.read_field.Statement.{statement}

@@ -2,7 +2,7 @@
 -- the first is within the text.
 use borrow.Author.Needs.{needs}
 use borrow.Author.Tests.{lt-ltb, le-ltb, not-true, not-false}
-use Rattle.unicode.specs.Choice.{pick}
+use Rattle.utf8.specs.Choice.{pick}
 use Rattle.closing.specs.Recovery.{recoverRead}
 use Rattle.closing.proofs.recover.recover.Statement.{statement}
 use Rattle.closing.proofs.recover.recover.Tie as tie
@@ -40,8 +40,8 @@ returns-2 c =
 sign-hint-requires : tie.Need-sign-hint-requires
 sign-hint-requires c κs = search needs
 
-is-clean-requires : tie.Need-is-clean-requires
-is-clean-requires c κs = search needs
+is-silent-requires : tie.Need-is-silent-requires
+is-silent-requires c κs = search needs
 
 passed-to-requires-2 : tie.Need-passed-to-requires-2
 passed-to-requires-2 c κs = search needs
@@ -49,17 +49,17 @@ passed-to-requires-2 c κs = search needs
 returns-3 : tie.Need-returns-3
 unfolding pick recoverRead
 returns-3 c =
-    let at-clean = c .before .before in
-    let at-peek = at-clean .before .before .before in
+    let at-silent = c .before .before in
+    let at-peek = at-silent .before .before .before in
     let at-past = at-peek .before .before .before in
     rw (
       ← at-past .past .ensures,
       lt-ltb _ _ (at-peek .before .if1 .left),
       ← at-peek .peek-is .ensures,
-      at-clean .before .before .if2 .left,
-      ← at-clean .before .sign-hint .ensures,
-      ← at-clean .is-clean .ensures,
-      not-true (at-clean .is-clean .result) (c .before .if3 .taken),
+      at-silent .before .before .if2 .left,
+      ← at-silent .before .sign-hint .ensures,
+      ← at-silent .is-silent .ensures,
+      not-true (at-silent .is-silent .result) (c .before .if3 .taken),
       ← c .passed-to2 .ensures,
     )
 
@@ -69,17 +69,17 @@ read-field-requires c κs = search needs
 returns-4 : tie.Need-returns-4
 unfolding pick recoverRead
 returns-4 c =
-    let at-clean = c .before .before .before in
-    let at-peek = at-clean .before .before .before in
+    let at-silent = c .before .before .before in
+    let at-peek = at-silent .before .before .before in
     let at-past = at-peek .before .before .before in
     rw (
       ← at-past .past .ensures,
       lt-ltb _ _ (at-peek .before .if1 .left),
       ← at-peek .peek-is .ensures,
-      at-clean .before .before .if2 .left,
-      ← at-clean .before .sign-hint .ensures,
-      ← at-clean .is-clean .ensures,
-      not-false (at-clean .is-clean .result) (c .before .before .if3 .left),
+      at-silent .before .before .if2 .left,
+      ← at-silent .before .sign-hint .ensures,
+      ← at-silent .is-silent .ensures,
+      not-false (at-silent .is-silent .result) (c .before .before .if3 .left),
       c .before .if4 .taken,
       ← c .read-field .ensures,
     )
@@ -90,17 +90,17 @@ passed-to-requires-3 c κs = search needs
 returns-5 : tie.Need-returns-5
 unfolding pick recoverRead
 returns-5 c =
-    let at-clean = c .before .before .before in
-    let at-peek = at-clean .before .before .before in
+    let at-silent = c .before .before .before in
+    let at-peek = at-silent .before .before .before in
     let at-past = at-peek .before .before .before in
     rw (
       ← at-past .past .ensures,
       lt-ltb _ _ (at-peek .before .if1 .left),
       ← at-peek .peek-is .ensures,
-      at-clean .before .before .if2 .left,
-      ← at-clean .before .sign-hint .ensures,
-      ← at-clean .is-clean .ensures,
-      not-false (at-clean .is-clean .result) (c .before .before .if3 .left),
+      at-silent .before .before .if2 .left,
+      ← at-silent .before .sign-hint .ensures,
+      ← at-silent .is-silent .ensures,
+      not-false (at-silent .is-silent .result) (c .before .before .if3 .left),
       c .before .if4 .left,
       ← c .passed-to3 .ensures,
     )
@@ -116,7 +116,7 @@ recover-spec =
     after-question-requires
     returns-2
     sign-hint-requires
-    is-clean-requires
+    is-silent-requires
     passed-to-requires-2
     returns-3
     read-field-requires

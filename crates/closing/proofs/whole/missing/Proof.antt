@@ -4,14 +4,14 @@ use Rattle.closing.specs.Wholes.{missingRead}
 use Rattle.closing.proofs.whole.missing.Statement.{statement}
 use Rattle.closing.proofs.whole.missing.Tie as tie
 
-span-across-requires : tie.Need-span-across-requires
-span-across-requires c κs = search needs
+past-requires : tie.Need-past-requires
+past-requires c κs = search needs
 
 because-of-requires : tie.Need-because-of-requires
 because-of-requires c κs = search needs
 
-expected-requires : tie.Need-expected-requires
-expected-requires c κs = search needs
+gap-at-requires : tie.Need-gap-at-requires
+gap-at-requires c κs = search needs
 
 is-identifier-requires : tie.Need-is-identifier-requires
 is-identifier-requires c κs = search needs
@@ -20,7 +20,7 @@ recover-requires : tie.Need-recover-requires
 recover-requires c κs = search needs
 
 record-of-requires : tie.Need-record-of-requires
-record-of-requires c κs = c .before .before .before .before .before .before .before .before .before .before .before .pre .0
+record-of-requires c κs = c .before .before .before .before .before .before .before .before .before .before .before .before .pre .0
 
 text-taken-requires : tie.Need-text-taken-requires
 text-taken-requires c κs = search needs
@@ -29,11 +29,11 @@ returns : tie.Need-returns
 unfolding missingRead
 returns c =
     let at-recover = c .before .before .before in
-    let at-expected = at-recover .before .before .before in
+    let at-gap-at = at-recover .before .before .before in
     rw (
-      ← at-expected .before .before .span-across .ensures,
-      ← at-expected .before .because-of .ensures,
-      ← at-expected .expected .ensures,
+      ← at-gap-at .before .before .past .ensures,
+      ← at-gap-at .before .because-of .ensures,
+      ← at-gap-at .gap-at .ensures,
       ← at-recover .before .before .is-identifier .ensures,
       ← at-recover .recover .ensures,
       ← c .before .record-of .ensures,
@@ -44,9 +44,9 @@ pub missing-spec : {M : Type 1} → statement M
 missing-spec =
     tie.close
     (tie.spec
-    span-across-requires
+    past-requires
     because-of-requires
-    expected-requires
+    gap-at-requires
     is-identifier-requires
     recover-requires
     record-of-requires

@@ -2,7 +2,7 @@
 -- argument takes at most two numbers, so the next one is within the limit of what follows.
 use borrow.Author.Needs.{needs}
 use native.Mathlib.Omega.{arith}
-use Rattle.unicode.specs.Choice.{pick}
+use Rattle.utf8.specs.Choice.{pick}
 use Rattle.closing.specs.Wholes.{placeholderRead}
 use Rattle.placeholder.specs.BoundLaws.{argument-next}
 use Rattle.closing.proofs.whole.placeholder.Statement.{statement}

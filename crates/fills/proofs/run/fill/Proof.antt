@@ -4,7 +4,7 @@ use native.Mathlib.Omega.{arith}
 use mathlib.Core.Path.{_∙_}
 use mathlib.Core.Logic.{⊎-elim}
 use denote.Ref.{now}
-use Rattle.reading.specs.RoomLaws.{few-errors}
+use Rattle.laws.specs.RoomLaws.{few-errors}
 use Rattle.fills.proofs.Running.{first-fronts, first-errors, filled-once, filled-twice}
 use Rattle.fills.proofs.run.fill.Statement.{statement}
 use Rattle.fills.proofs.run.fill.Tie as tie

@@ -9,11 +9,11 @@ use Rattle.fills.proofs.run.run.Statement.{statement}
 use Rattle.fills.proofs.run.run.Tie as tie
 
 abbrev Inv-loop : tie.InvT-loop
-Inv-loop text frame mode fronts pieces₀ errors₀ state₀ marks₀ left₀ pieces errors state marks left =
-    Going text frame mode fronts pieces₀ errors₀ pieces errors state marks left
+Inv-loop text frame mode fronts pieces₀ errors₀ state₀ extent₀ left₀ pieces errors state extent left =
+    Going text frame mode fronts pieces₀ errors₀ pieces errors state extent left
 
 abbrev μ-loop : tie.MeasureT-loop
-μ-loop text frame mode fronts pieces₀ errors₀ state₀ marks₀ left₀ pieces errors state marks left = left
+μ-loop text frame mode fronts pieces₀ errors₀ state₀ extent₀ left₀ pieces errors state extent left = left
 
 add-left : tie.Need-add-left Inv-loop μ-loop
 add-left c = omega (arith, c .before .before .before .pre .0 .text)
@@ -24,28 +24,28 @@ loop-holds c =
     let a = s .args in
     going-first (now (a .text)) (a .frame) (a .mode) (a .fronts) (now (a .pieces)) (now (a .errors)) (s .pre .1) (s .pre .0) (s .pre .2) (s .pre .3)
 
-next-turn-requires : tie.Need-next-turn-requires Inv-loop μ-loop
-next-turn-requires c κs =
+write-next-requires : tie.Need-write-next-requires Inv-loop μ-loop
+write-next-requires c κs =
     let s = c .before .before .before .before .before .before .before in
     let a = s .args in
     let l = c .before .before .before .loop in (
       s .pre .0,
-      omega (arith, l .inv .next),
+      omega (arith, l .inv .kept .next),
       going-room (now (a .text)) (a .frame) (a .mode) (a .fronts) (now (a .pieces)) (now (a .errors)) (s .pre .1) (l .state) (l .left) (l .inv) (c .before .before .loop-test .taken),
     )
 
 same-length : tie.Need-same-length Inv-loop μ-loop
-same-length c = c .before .before .before .before .before .before .before .next-turn .kept .1 .1 .1 .1 .0 ∙ c .before .before .before .before .before .before .before .before .before .before .before .loop .inv .pieces .same
+same-length c = c .before .before .before .before .before .before .before .write-next .kept .1 .1 .1 .1 .0 ∙ c .before .before .before .before .before .before .before .before .before .before .before .loop .inv .pieces .same
 
 same-length-2 : tie.Need-same-length-2 Inv-loop μ-loop
-same-length-2 c = c .before .before .before .before .before .before .before .next-turn .kept .1 .1 .1 .1 .1 .0 ∙ c .before .before .before .before .before .before .before .before .before .before .before .loop .inv .errors .same
+same-length-2 c = c .before .before .before .before .before .before .before .write-next .kept .1 .1 .1 .1 .1 .0 ∙ c .before .before .before .before .before .before .before .before .before .before .before .loop .inv .errors .same
 
 returns : tie.Need-returns Inv-loop μ-loop
 returns c =
     let s = c .before .before .before .before .before .before .before .before .before .before .before .before .before .before .before in
     let a = s .args in
     let l = c .before .before .before .before .before .before .before .before .before .before .before .loop in
-    let turn = c .before .before .before .before .before .before .before .next-turn in
+    let turn = c .before .before .before .before .before .before .before .write-next in
     going-over (now (a .text)) (a .frame) (a .mode) (a .fronts) (now (a .pieces)) (now (a .errors)) (s .pre .1) (l .state) (l .left) (l .inv) (c .before .before .before .before .before .before .before .before .before .before .loop-test .taken)
     (turn .ensures) (not-true (turn .result .more) (c .if1 .taken))
 
@@ -60,7 +60,7 @@ loop-again c =
     let s = c .before .before .before .before .before .before .before .before .before .before .before .before .before .before .before .before in
     let a = s .args in
     let l = c .before .before .before .before .before .before .before .before .before .before .before .before .loop in
-    let turn = c .before .before .before .before .before .before .before .before .next-turn in
+    let turn = c .before .before .before .before .before .before .before .before .write-next in
     going-on (now (a .text)) (a .frame) (a .mode) (a .fronts) (now (a .pieces)) (now (a .errors)) (s .pre .1) (l .state) (l .left) (l .inv) (c .before .before .before .before .before .before .before .before .before .before .before .loop-test .taken)
     (turn .ensures) (not-false (turn .result .more) (c .before .if1 .left))
 
@@ -85,7 +85,7 @@ run-spec =
     μ-loop
     add-left
     loop-holds
-    next-turn-requires
+    write-next-requires
     same-length
     same-length-2
     returns

@@ -1,7 +1,7 @@
 -- `placeholder::format::after_dot` meets its contract: it is the definition, call by call; a star's number is below the limit, so the
 -- next one fits.
 use borrow.Author.Needs.{needs}
-use Rattle.unicode.specs.Choice.{pick}
+use Rattle.utf8.specs.Choice.{pick}
 use Rattle.placeholder.specs.Parts.{afterDot}
 use Rattle.placeholder.proofs.format.after_dot.Statement.{statement}
 use Rattle.placeholder.proofs.format.after_dot.Tie as tie

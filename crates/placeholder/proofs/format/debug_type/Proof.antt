@@ -1,7 +1,7 @@
 -- `placeholder::format::debug_type` meets its contract: it is the definition, one case where a `#`, `x` or `X` follows and one where
 -- none does.
 use borrow.Author.Needs.{needs}
-use Rattle.unicode.specs.Choice.{pick}
+use Rattle.utf8.specs.Choice.{pick}
 use Rattle.placeholder.specs.Types.{debugType}
 use Rattle.placeholder.proofs.format.debug_type.Statement.{statement}
 use Rattle.placeholder.proofs.format.debug_type.Tie as tie

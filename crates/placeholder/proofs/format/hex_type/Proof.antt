@@ -1,6 +1,6 @@
 -- `placeholder::format::hex_type` meets its contract: it is the definition, one case with a `?` and one without.
 use borrow.Author.Needs.{needs}
-use Rattle.unicode.specs.Choice.{pick}
+use Rattle.utf8.specs.Choice.{pick}
 use Rattle.placeholder.specs.Types.{hexType}
 use Rattle.placeholder.proofs.format.hex_type.Statement.{statement}
 use Rattle.placeholder.proofs.format.hex_type.Tie as tie

@@ -1,6 +1,6 @@
 -- `placeholder::format::is_align` meets its contract: it is the definition, test by test.
 use borrow.Author.Needs.{needs}
-use Rattle.unicode.specs.Choice.{pick}
+use Rattle.utf8.specs.Choice.{pick}
 use Rattle.placeholder.specs.Parts.{isAlign}
 use Rattle.placeholder.proofs.format.is_align.Statement.{statement}
 use Rattle.placeholder.proofs.format.is_align.Tie as tie

@@ -1,6 +1,6 @@
 -- `placeholder::format::is_hex_or_hash` meets its contract: it is the definition, test by test.
 use borrow.Author.Needs.{needs}
-use Rattle.unicode.specs.Choice.{pick}
+use Rattle.utf8.specs.Choice.{pick}
 use Rattle.placeholder.specs.Types.{isHexOrHash}
 use Rattle.placeholder.proofs.format.is_hex_or_hash.Statement.{statement}
 use Rattle.placeholder.proofs.format.is_hex_or_hash.Tie as tie

@@ -1,6 +1,6 @@
 -- `placeholder::format::plain_width` meets its contract: it is the definition, call by call; an implied width has no span.
 use borrow.Author.Needs.{needs}
-use Rattle.unicode.specs.Choice.{pick}
+use Rattle.utf8.specs.Choice.{pick}
 use Rattle.placeholder.specs.Parts.{plainWidth}
 use Rattle.placeholder.proofs.format.plain_width.Statement.{statement}
 use Rattle.placeholder.proofs.format.plain_width.Tie as tie

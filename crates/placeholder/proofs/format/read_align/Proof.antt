@@ -1,6 +1,6 @@
 -- `placeholder::format::read_align` meets its contract: it is the definition, sign by sign.
 use borrow.Author.Needs.{needs}
-use Rattle.unicode.specs.Choice.{pick}
+use Rattle.utf8.specs.Choice.{pick}
 use Rattle.placeholder.specs.Parts.{alignRead}
 use Rattle.placeholder.proofs.format.read_align.Statement.{statement}
 use Rattle.placeholder.proofs.format.read_align.Tie as tie

@@ -3,8 +3,8 @@
 use borrow.Author.Needs.{needs}
 use mathlib.Core.Path.{sym, _∙_}
 use native.Mathlib.Omega.{arith}
-use Rattle.unicode.specs.CharLaws.{peeked}
-use Rattle.unicode.specs.Choice.{pick}
+use Rattle.utf8.specs.CharLaws.{peeked}
+use Rattle.utf8.specs.Choice.{pick}
 use Rattle.placeholder.specs.Parts.{fillRead}
 use Rattle.placeholder.proofs.format.read_fill.Statement.{statement}
 use Rattle.placeholder.proofs.format.read_fill.Tie as tie

@@ -1,6 +1,6 @@
 -- `placeholder::format::read_precision` meets its contract: it is the definition, one case with a dot and one without.
 use borrow.Author.Needs.{needs}
-use Rattle.unicode.specs.Choice.{pick}
+use Rattle.utf8.specs.Choice.{pick}
 use Rattle.placeholder.specs.Parts.{precisionRead}
 use Rattle.placeholder.proofs.format.read_precision.Statement.{statement}
 use Rattle.placeholder.proofs.format.read_precision.Tie as tie

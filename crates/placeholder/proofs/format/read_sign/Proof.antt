@@ -1,6 +1,6 @@
 -- `placeholder::format::read_sign` meets its contract: it is the definition, sign by sign.
 use borrow.Author.Needs.{needs}
-use Rattle.unicode.specs.Choice.{pick}
+use Rattle.utf8.specs.Choice.{pick}
 use Rattle.placeholder.specs.Parts.{signRead}
 use Rattle.placeholder.proofs.format.read_sign.Statement.{statement}
 use Rattle.placeholder.proofs.format.read_sign.Tie as tie

@@ -1,6 +1,6 @@
 -- `placeholder::format::read_type` meets its contract: it is the definition, sign by sign and then the word.
 use borrow.Author.Needs.{needs}
-use Rattle.unicode.specs.Choice.{pick}
+use Rattle.utf8.specs.Choice.{pick}
 use Rattle.placeholder.specs.Types.{typeRead}
 use Rattle.placeholder.proofs.format.read_type.Statement.{statement}
 use Rattle.placeholder.proofs.format.read_type.Tie as tie

@@ -1,6 +1,6 @@
 -- `placeholder::format::read_width` meets its contract: it is the definition for `0$`, for the flag and a count, and for a count alone.
 use borrow.Author.Needs.{needs}
-use Rattle.unicode.specs.Choice.{pick}
+use Rattle.utf8.specs.Choice.{pick}
 use Rattle.placeholder.specs.Parts.{widthRead}
 use Rattle.placeholder.proofs.format.read_width.Statement.{statement}
 use Rattle.placeholder.proofs.format.read_width.Tie as tie

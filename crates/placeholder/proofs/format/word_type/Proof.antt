@@ -1,6 +1,6 @@
 -- `placeholder::format::word_type` meets its contract: it is the definition, call by call; an empty word has no span.
 use borrow.Author.Needs.{needs}
-use Rattle.unicode.specs.Choice.{pick}
+use Rattle.utf8.specs.Choice.{pick}
 use Rattle.placeholder.specs.Types.{wordType}
 use Rattle.placeholder.proofs.format.word_type.Statement.{statement}
 use Rattle.placeholder.proofs.format.word_type.Tie as tie

@@ -1,6 +1,6 @@
 -- `placeholder::modes::spec` meets its contract: it is the definition, one case with a colon and one without.
 use borrow.Author.Needs.{needs}
-use Rattle.unicode.specs.Choice.{pick}
+use Rattle.utf8.specs.Choice.{pick}
 use Rattle.placeholder.specs.Specs.{specRead}
 use Rattle.placeholder.proofs.modes.spec.Statement.{statement}
 use Rattle.placeholder.proofs.modes.spec.Tie as tie

@@ -1,6 +1,6 @@
 -- `placeholder::position::is_r` meets its contract: it is the definition, an `r` that ends where the word does.
 use borrow.Author.Needs.{needs}
-use Rattle.unicode.specs.Choice.{pick}
+use Rattle.utf8.specs.Choice.{pick}
 use Rattle.placeholder.specs.Places.{isR}
 use Rattle.placeholder.proofs.position.is_r.Statement.{statement}
 use Rattle.placeholder.proofs.position.is_r.Tie as tie

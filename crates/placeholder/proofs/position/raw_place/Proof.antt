@@ -1,7 +1,7 @@
 -- `placeholder::position::raw_place` meets its contract: it is the definition with `#` and a word, with `#` alone, and with neither.
 use borrow.Author.Needs.{needs}
 use borrow.Author.Tests.{not-true, not-false}
-use Rattle.unicode.specs.Choice.{pick}
+use Rattle.utf8.specs.Choice.{pick}
 use Rattle.placeholder.specs.Places.{rawPlace}
 use Rattle.placeholder.proofs.position.raw_place.Statement.{statement}
 use Rattle.placeholder.proofs.position.raw_place.Tie as tie

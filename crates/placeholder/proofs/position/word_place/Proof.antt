@@ -1,6 +1,6 @@
 -- `placeholder::position::word_place` meets its contract: it is the definition for no word, for the word `r` and for any other.
 use borrow.Author.Needs.{needs}
-use Rattle.unicode.specs.Choice.{pick}
+use Rattle.utf8.specs.Choice.{pick}
 use Rattle.placeholder.specs.Places.{wordPlace}
 use Rattle.placeholder.proofs.position.word_place.Statement.{statement}
 use Rattle.placeholder.proofs.position.word_place.Tie as tie

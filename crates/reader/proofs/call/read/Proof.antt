@@ -45,34 +45,34 @@ use denote.Triple.Walked.{says, Stays, gave-slice, stay-none, stay-none-slice, w
 use denote.Exit.{yes}
 use denote.Signature.{plain}
 use Rattle.frame.specs.declared.Frame.{Frame}
-use Rattle.placeholder.specs.declared.Mode.{Mode}
+use Rattle.frame.specs.declared.Mode.{Mode}
 use Rattle.reading.specs.Lists.{pieces, errors, places, lines}
 use Rattle.reading.specs.declared.Piece.{Piece}
 use Rattle.reading.specs.declared.ErrorRecord.{ErrorRecord}
-use Rattle.answer.specs.Answers.{Decided}
+use Rattle.answer.specs.Decisions.{Decided}
 use Rattle.reading.specs.Written.{over, pairs}
-use Rattle.answer.specs.declared.Request.{Request}
-use Rattle.answer.specs.declared.Rooms.{Rooms}
-use Rattle.answer.specs.declared.Answer.{Answer}
+use Rattle.reading.specs.declared.Request.{Request}
+use Rattle.reading.specs.declared.Rooms.{Rooms}
+use Rattle.reading.specs.declared.Answer.{Answer}
 use Rattle.answer.specs.declared.Decision.{Decision}
 use Rattle.reader.specs.Lent.{FilledBy}
-use Rattle.reader.specs.Calls.{Read}
+use Rattle.reading.specs.Calls.{Read}
 use Rattle.reader.proofs.Again.{gives-up}
 use Rattle.reader.proofs.Bits.{after, then-of, holds, fails}
 use Rattle.reader.proofs.Calling as Ca
 use Rattle.reader.proofs.Fields.{field-of}
 use Rattle.frame.proofs.Frame as Fr
 use Rattle.frame.proofs.Frame.Laws as Fr′
-use Rattle.placeholder.proofs.Mode as Mo
-use Rattle.placeholder.proofs.Mode.Laws as Mo′
+use Rattle.frame.proofs.Mode as Mo
+use Rattle.frame.proofs.Mode.Laws as Mo′
 use Rattle.reading.proofs.Piece as Pi
 use Rattle.reading.proofs.ErrorRecord as Er
-use Rattle.answer.proofs.Request as Rq
-use Rattle.answer.proofs.Request.Laws as Rq′
-use Rattle.answer.proofs.Rooms as Ro
-use Rattle.answer.proofs.Rooms.Laws as Ro′
-use Rattle.answer.proofs.Answer as An
-use Rattle.answer.proofs.Answer.Laws as An′
+use Rattle.reading.proofs.Request as Rq
+use Rattle.reading.proofs.Request.Laws as Rq′
+use Rattle.reading.proofs.Rooms as Ro
+use Rattle.reading.proofs.Rooms.Laws as Ro′
+use Rattle.reading.proofs.Answer as An
+use Rattle.reading.proofs.Answer.Laws as An′
 use Rattle.answer.proofs.Decision as De
 use Rattle.answer.proofs.Decision.Laws as De′
 use Rattle.answer.proofs.decide.decide as dc

@@ -73,9 +73,9 @@ kind = record {
   tells = LL.tells Tu.the-type Tu′.the-laws;
   lawful = λ 𝓤 H A W. LL.lawful Tu.the-type Tu′.the-laws 𝓤 H A W;
   adder = #reader·lists·put;
-  added = record { number = 1; ty = tyBool; offset = 1; lies = refl } ∷ record { number = 2; ty = error .mir; offset = 8; lies = refl } ∷ [];
+  added = record { number = 1; ty = tyBool; offset = _; lies = refl } ∷ record { number = 2; ty = error .mir; offset = _; lies = refl } ∷ [];
   nexter = #turns·next-fault;
-  onward = record { number = 3; ty = Cu′.mir; offset = 104; lies = refl } ∷ record { number = 4; ty = tyInt w64; offset = 128; lies = refl } ∷ [];
+  onward = record { number = 3; ty = Cu′.mir; offset = _; lies = refl } ∷ record { number = 4; ty = tyInt w64; offset = _; lies = refl } ∷ [];
   Key = Slot;
   from = λ r. (r .cursor, r .slot);
   first = λ c. (c, 0);

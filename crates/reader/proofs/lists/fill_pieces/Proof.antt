@@ -70,9 +70,9 @@ kind = record {
   tells = LL.tells Tu.the-type Tu′.the-laws;
   lawful = λ 𝓤 H A W. LL.lawful Tu.the-type Tu′.the-laws 𝓤 H A W;
   adder = #reader·lists·push-piece;
-  added = record { number = 1; ty = piece .mir; offset = 8; lies = refl } ∷ [];
+  added = record { number = 1; ty = piece .mir; offset = _; lies = refl } ∷ [];
   nexter = #turns·next-piece;
-  onward = record { number = 2; ty = Cu′.mir; offset = 272; lies = refl } ∷ [];
+  onward = record { number = 2; ty = Cu′.mir; offset = _; lies = refl } ∷ [];
   Key = Cursor;
   from = λ r. r .cursor;
   first = λ c. c;

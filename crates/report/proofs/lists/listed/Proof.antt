@@ -46,22 +46,22 @@ use denote.Exit.{yes}
 use denote.Signature.{plain, shrSliceOf}
 use Rattle.reading.specs.declared.Piece.{Piece}
 use Rattle.reading.specs.declared.ErrorRecord.{ErrorRecord}
-use Rattle.answer.specs.declared.Answer.{Answer}
-use Rattle.answer.specs.declared.Request.{Request}
+use Rattle.reading.specs.declared.Answer.{Answer}
+use Rattle.reading.specs.declared.Request.{Request}
 use Rattle.reading.proofs.Piece as Pi
 use Rattle.reading.proofs.Piece.Laws as Pi′
 use Rattle.reading.proofs.ErrorRecord as Er
 use Rattle.reading.proofs.ErrorRecord.Laws as Er′
-use Rattle.answer.proofs.Answer as An
-use Rattle.answer.proofs.Answer.Laws as An′
-use Rattle.answer.proofs.Request as Rq
-use Rattle.answer.proofs.Request.Laws as Rq′
+use Rattle.reading.proofs.Answer as An
+use Rattle.reading.proofs.Answer.Laws as An′
+use Rattle.reading.proofs.Request as Rq
+use Rattle.reading.proofs.Request.Laws as Rq′
 use Rattle.reader.proofs.call.read.Symbol as rd-def
 use Rattle.reader.proofs.call.read.Symbol.{name as #reader·call·read}
 use Rattle.reader.proofs.call.read.Met as rd-thm
-use Rattle.reader.proofs.Handing as Ha
-use Rattle.reader.proofs.Handing.{P, E, pval, eval, nval}
-use Rattle.reader.proofs.Slot.{arr, arrTy, made}
+use Rattle.report.proofs.Handing as Ha
+use Rattle.report.proofs.Handing.{P, E, pval, eval, nval}
+use Rattle.report.proofs.Slot.{arr, arrTy, made}
 use Rattle.report.proofs.lines.sections as sc
 use Rattle.report.proofs.lines.sections.Symbol as sc-def
 use Rattle.report.proofs.lines.sections.Symbol.{name as #report·lines·sections}

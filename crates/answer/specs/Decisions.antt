@@ -1,0 +1,29 @@
+-- What the functions that decide a call come to, part by part. Rests on reading's Answers.
+use Prim.Native.Nat.{ℕ, _≤_}
+use mathlib.Core.Path.{_≡_}
+use mathlib.Core.List.{List}
+use lib.ListN.{length}
+use Rattle.reading.specs.Answers.{noCounts, answered, frameFor, modeFor, answerOf}
+use Rattle.laws.specs.Deciding.{openAnswer}
+use Rattle.reading.specs.declared.Request.{Request}
+use Rattle.reading.specs.declared.Rooms.{Rooms}
+use Rattle.answer.specs.declared.Decision.{Decision}
+
+-- what no refusal before the text is read leaves: nothing counted, and the frame and the mode of the call
+pub record Admitted (t s : List ℕ) (q : Request) (d : Decision) : Type 0 where
+  pub answer : d .answer ≡ answered 0 0 noCounts
+  pub frame : d .frame ≡ frameFor t s q
+  pub mode : d .mode ≡ modeFor q
+
+-- what is decided before the text is read: the answer, and where it is 0 the frame and the mode, and that the text is within the limit
+pub record Opened (t s : List ℕ) (q : Request) (d : Decision) : Type 0 where
+  pub answer : d .answer ≡ openAnswer t s q
+  pub frame : d .answer .number ≡ 0 → d .frame ≡ frameFor t s q
+  pub mode : d .answer .number ≡ 0 → d .mode ≡ modeFor q
+  pub short : d .answer .number ≡ 0 → length t ≤ 65535
+
+-- the decision: the answer, and where it is 0 the frame and the mode that lists are filled by
+pub record Decided (t s : List ℕ) (q : Request) (r : Rooms) (d : Decision) : Type 0 where
+  pub answer : d .answer ≡ answerOf t s q r
+  pub frame : d .answer .number ≡ 0 → d .frame ≡ frameFor t s q
+  pub mode : d .answer .number ≡ 0 → d .mode ≡ modeFor q

@@ -1,0 +1,80 @@
+-- `fills::step::put_told_spec` meets its contract: its parts, one after another.
+use borrow.Author.Needs.{needs}
+use native.Mathlib.Omega.{arith}
+use mathlib.Core.Path.{_∙_}
+use denote.Ref.{now}
+use Rattle.fills.proofs.Telling.{spec-laid}
+use Rattle.fills.proofs.step.put_told_spec.Statement.{statement}
+use Rattle.fills.proofs.step.put_told_spec.Tie as tie
+
+put-told-fill-requires : tie.Need-put-told-fill-requires
+put-told-fill-requires c κs = search needs
+
+add-put4 : tie.Need-add-put4
+add-put4 c = search needs
+
+align-word-requires : tie.Need-align-word-requires
+align-word-requires c κs = search needs
+
+sign-word-requires : tie.Need-sign-word-requires
+sign-word-requires c κs = search needs
+
+bit-requires : tie.Need-bit-requires
+bit-requires c κs = search needs
+
+bit-requires-2 : tie.Need-bit-requires-2
+bit-requires-2 c κs = search needs
+
+put4-requires : tie.Need-put4-requires
+put4-requires c κs = search needs
+
+add-put-told-width : tie.Need-add-put-told-width
+add-put-told-width c = search needs
+
+put-told-width-requires : tie.Need-put-told-width-requires
+put-told-width-requires c κs = search needs
+
+add-put-told-count : tie.Need-add-put-told-count
+add-put-told-count c = search needs
+
+put-told-count-requires : tie.Need-put-told-count-requires
+put-told-count-requires c κs = search needs
+
+add-put-told-type : tie.Need-add-put-told-type
+add-put-told-type c =
+    omega (arith, c .before .before .before .before .before .before .before .before .before .before .before .before .before .before .before .before .before .before .before .before .before .before .before .before .before .before .pre .3, c .before .before .before .before .before .before .before .before .before .before .before .before .before .before .before .before .before .before .before .before .before .before .before .before .before .before .good)
+
+put-told-type-requires : tie.Need-put-told-type-requires
+put-told-type-requires c κs =
+    (c .before .before .before .before .before .before .before .before .before .before .before .before .before .before .before .before .before .before .before .before .before .before .before .before .before .before .pre .0, omega (arith, c .before .before .before .before .before .before .before .before .before .before .before .before .before .before .before .before .before .before .before .before .before .before .before .before .before .before .pre .3, c .before .before .before .before .before .before .before .before .before .before .before .before .before .before .before .before .before .before .out .given, c .before .before .before .before .before .before .before .before .before .before .out2 .given, c .before .before .before .before .before .before .out3 .given, c .before .before .out4 .given))
+
+same-length : tie.Need-same-length
+same-length c = c .before .out5 .given ∙ c .before .before .before .before .before .out4 .given ∙ c .before .before .before .before .before .before .before .before .before .out3 .given ∙ c .before .before .before .before .before .before .before .before .before .before .before .before .before .out2 .given ∙ c .before .before .before .before .before .before .before .before .before .before .before .before .before .before .before .before .before .before .before .before .before .out .given
+
+returns : tie.Need-returns
+returns c =
+    let s = c .before .before .before .before .before .before .before .before .before .before .before .before .before .before .before .before .before .before .before .before .before .before .before .before .before .before .before .before .before in
+    let a = s .args in
+    spec-laid (now (a .text)) (a .frame) (a .at) (a .next) (a .spec) (now (a .out)) (a .k) (s .pre .3) (c .before .before .before .before .before .before .before .before .before .before .before .before .before .before .before .before .before .before .before .before .before .before .put-told-fill .ensures)
+    (rw (c .before .before .before .before .before .before .before .before .before .before .before .before .before .before .before .before .before .before .align-word .ensures, c .before .before .before .before .before .before .before .before .before .before .before .before .before .before .before .before .before .sign-word .ensures, c .before .before .before .before .before .before .before .before .before .before .before .before .before .before .before .before .bit .ensures, c .before .before .before .before .before .before .before .before .before .before .before .before .before .before .before .bit2 .ensures) at (c .before .before .before .before .before .before .before .before .before .before .before .before .before .before .put4 .ensures))
+    (c .before .before .before .before .before .before .before .before .before .before .put-told-width .ensures) (c .before .before .before .before .before .before .put-told-count .ensures) (c .before .before .put-told-type .ensures)
+
+pub put-told-spec-spec : {M : Type 1} → statement M
+put-told-spec-spec =
+    tie.close
+    (tie.spec
+    put-told-fill-requires
+    add-put4
+    align-word-requires
+    sign-word-requires
+    bit-requires
+    bit-requires-2
+    put4-requires
+    add-put-told-width
+    put-told-width-requires
+    add-put-told-count
+    put-told-count-requires
+    add-put-told-type
+    put-told-type-requires
+    same-length
+    returns)

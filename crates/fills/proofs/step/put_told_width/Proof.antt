@@ -1,0 +1,39 @@
+-- `fills::step::put_told_width` meets its contract: a name, or any other count.
+use borrow.Author.Needs.{needs}
+use denote.Ref.{now}
+use Rattle.fills.proofs.Telling.{width-name, width-count}
+use Rattle.fills.proofs.step.put_told_width.Statement.{statement}
+use Rattle.fills.proofs.step.put_told_width.Tie as tie
+
+put-told-name-requires : tie.Need-put-told-name-requires
+put-told-name-requires c κs = search needs
+
+same-length : tie.Need-same-length
+same-length c = search needs
+
+returns : tie.Need-returns
+returns c =
+    let a = c .before .before .before .before .before .before .before .before .args in
+    rw (width-name (now (a .text)) (a .frame) (a .from) (a .word) (a .next) (a .part) (c .before .before .before .before .if1 .taken)) at (c .before .before .put-told-name .ensures)
+
+put-told-count-requires : tie.Need-put-told-count-requires
+put-told-count-requires c κs = search needs
+
+same-length-2 : tie.Need-same-length-2
+same-length-2 c = search needs
+
+returns-2 : tie.Need-returns-2
+returns-2 c =
+    let a = c .before .before .before .before .before .before .before .before .args in
+    rw (width-count (now (a .text)) (a .frame) (a .from) (a .word) (a .next) (a .part) (c .before .before .before .before .if1 .left)) at (c .before .before .put-told-count .ensures)
+
+pub put-told-width-spec : {M : Type 1} → statement M
+put-told-width-spec =
+    tie.close
+    (tie.spec
+    put-told-name-requires
+    same-length
+    returns
+    put-told-count-requires
+    same-length-2
+    returns-2)

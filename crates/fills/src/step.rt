@@ -1,0 +1,563 @@
+// One step of a reading: its piece and its error records, written.
+use closing::recover::Hint;
+use frame::Frame;
+use frame::Mode;
+use frame::Span;
+use frame::TextPlace;
+use quick::PartTold;
+use quick::PlaceholderTold;
+use quick::SignHint;
+use quick::SpecTold;
+use quick::TypeTold;
+use reading::State;
+use words::align_word;
+use words::bit;
+use words::low;
+use words::put_bare_error;
+use words::put_literal;
+use words::put_zeros;
+use words::put4;
+use words::sign_word;
+use writing::Extent;
+use writing::StepWritten;
+use writing::one_more;
+use writing::put_fault;
+use writing::write_step;
+ghost use mathlib.Core.Path.{_≡_};
+ghost use mathlib.Core.Bool.{true, false};
+ghost use mathlib.Core.List.{[], _∷_, _++_};
+ghost use Prim.Native.Nat.{_+_, _*_, _≤_, _<_};
+ghost use lib.Dec.{eqb};
+ghost use lib.ListN.{length, getD};
+ghost use Rattle.utf8.specs.Choice.{pick};
+ghost use Rattle.utf8.specs.Utf8.{peekAt};
+ghost use Rattle.frame.specs.Places.{place as placeAt};
+ghost use Rattle.frame.specs.Bounds.{Small};
+ghost use Rattle.placeholder.specs.Specs.{noSpec};
+ghost use Rattle.reading.specs.Faults.{flawFault, argumentSlots};
+ghost use Rattle.reading.specs.Steps.{stepAt};
+ghost use Rattle.quick.specs.Tellings.{codeSeen, fillOf, countOf, widthOf, countSpan, typeSpan, afterStar, specOf, argumentOf, blankFlaw, blanksOf, placedHint};
+ghost use Rattle.words.specs.Laid.{laid};
+ghost use Rattle.words.specs.Layout.{lowOf, four, placeWords, fillWords, spanWords, countWords, specWords, argumentWords};
+ghost use Rattle.writing.specs.StepsWritten.{notedBy, Room, Notes, BackRoom, BackNotes, StepRoom, SteppedOn};
+ghost use Rattle.fills.specs.Lane.{Sound, placeOf, toldHead, nameWords, toldState, Flawless, whyTold, missingTold, toldSlots};
+
+// The place of what is told, which starts at `at`.
+fn put_told_place(out: &mut [u32], k: usize, place: PartTold, at: usize, next: usize, span: Span)
+    requires { ⌜ k + 4 ≤ length (now out) ⌝ }
+    ensures { λ _. ⌜ now (out .exit) ≡ laid (now (out .entry)) k (placeWords (placeOf at place next) span) ⌝ }
+{
+    let start = low(span.start.0);
+    let end = low(span.end.0);
+    if place.tag == 0 {
+        put4(out, k, low(next), 0, start, end);
+        return;
+    }
+    if place.tag == 1 {
+        put4(out, k, place.value as u32, 0, start, end);
+        return;
+    }
+    put4(out, k, low(at), low(place.end), start, end);
+}
+
+// The first eight numbers of what is told: its range, its place and the place's span.
+fn put_told_head(
+    out: &mut [u32],
+    k: usize,
+    text: &[u8],
+    frame: Frame,
+    brace: usize,
+    told: PlaceholderTold,
+    next: usize,
+)
+    requires { ⌜ Small (now text) frame × Sound (now text) told × (brace < 65535) × (k + 8 ≤ length (now out)) ⌝ }
+    ensures { λ _. ⌜ now (out .exit) ≡ laid (now (out .entry)) k (toldHead (now (text .entry)) frame brace told next) ⌝ }
+{
+    let place = told.place;
+    let span = frame::span_between(text, frame, TextPlace(brace + 1), TextPlace(told.to));
+    put4(&mut *out, k, 1, low(brace), low(told.on), place.tag as u32);
+    put_told_place(out, k + 4, place, brace + 1, next, span);
+}
+
+// What is told without a colon, as the n-th piece.
+fn put_bare(
+    out: &mut [u32],
+    n: usize,
+    text: &[u8],
+    frame: Frame,
+    brace: usize,
+    told: PlaceholderTold,
+    next: usize,
+)
+    requires { ⌜ Small (now text) frame × Sound (now text) told × (brace < 65535) × (40 * n + 40 ≤ length (now out)) ⌝ }
+    ensures { λ _. ⌜ now (out .exit) ≡ laid (now (out .entry)) (40 * n) (toldHead (now (text .entry)) frame brace told next ++ specWords (noSpec (placeAt (told .to)) next .spec)) ⌝ }
+{
+    let k = 40 * n;
+    let to = low(told.to);
+    put_told_head(&mut *out, k, text, frame, brace, told, next);
+    put_zeros(&mut *out, k + 8);
+    put4(&mut *out, k + 32, to, to, 0, 0);
+    put4(out, k + 36, 0, 0, 0, 0);
+}
+
+// The fill between two places; none where they are the same.
+fn put_told_fill(out: &mut [u32], k: usize, text: &[u8], frame: Frame, at: usize, past: usize)
+    requires { ⌜ Small (now text) frame × (k + 4 ≤ length (now out)) ⌝ }
+    ensures { λ _. ⌜ now (out .exit) ≡ laid (now (out .entry)) k (fillWords (fillOf (now (text .entry)) frame at past)) ⌝ }
+{
+    if at == past {
+        put4(out, k, 0, 0, 0, 0);
+        return;
+    }
+    let span = scan::span_across(text, frame, TextPlace(at), TextPlace(at));
+    put4(
+        out,
+        k,
+        1,
+        code_at(text, at),
+        low(span.start.0),
+        low(span.end.0),
+    );
+}
+
+// The code of the character at a place; 0 at the end.
+fn code_at(text: &[u8], at: usize) -> u32
+    ensures { λ r. ⌜ r ≡ codeSeen (peekAt (now (text .entry)) at) ⌝ }
+{
+    match utf8::peek(text, at) {
+        utf8::Seen::Char { code, width: _ } => code,
+        utf8::Seen::End => 0,
+    }
+}
+
+// A count's number: the next argument's for a star.
+fn count_value(part: PartTold, next: usize) -> u32
+    ensures { λ r. ⌜ r ≡ pick (eqb (part .tag) 3) (lowOf next) (part .value) ⌝ }
+{
+    if part.tag == 3 {
+        return low(next);
+    }
+    part.value as u32
+}
+
+// A width that is a name, from its first byte to where it ends; its `$` ends at `end`.
+fn put_told_name(
+    out: &mut [u32],
+    k: usize,
+    text: &[u8],
+    frame: Frame,
+    from: usize,
+    word: usize,
+    end: usize,
+)
+    requires { ⌜ Small (now text) frame × (k + 8 ≤ length (now out)) ⌝ }
+    ensures { λ _. ⌜ now (out .exit) ≡ laid (now (out .entry)) k (nameWords (now (text .entry)) frame from word end) ⌝ }
+{
+    let name = frame::span_between(text, frame, TextPlace(from), TextPlace(word));
+    let span = frame::span_between(text, frame, TextPlace(from), TextPlace(end));
+    put4(&mut *out, k, 4, low(from), low(word), low(name.start.0));
+    put4(
+        out,
+        k + 4,
+        low(name.end.0),
+        1,
+        low(span.start.0),
+        low(span.end.0),
+    );
+}
+
+// The width of a spec.
+fn put_told_width(
+    out: &mut [u32],
+    k: usize,
+    text: &[u8],
+    frame: Frame,
+    from: usize,
+    word: usize,
+    part: PartTold,
+    next: usize,
+)
+    requires { ⌜ Small (now text) frame × (part .tag ≤ 4) × (k + 8 ≤ length (now out)) ⌝ }
+    ensures { λ _. ⌜ now (out .exit) ≡ laid (now (out .entry)) k (countWords (widthOf (now (text .entry)) frame next from word part) (countSpan (now (text .entry)) frame from part)) ⌝ }
+{
+    if part.tag == 4 {
+        put_told_name(out, k, text, frame, from, word, part.end);
+        return;
+    }
+    put_told_count(out, k, text, frame, from, part, next);
+}
+
+// A count that starts at `from`.
+fn put_told_count(
+    out: &mut [u32],
+    k: usize,
+    text: &[u8],
+    frame: Frame,
+    from: usize,
+    part: PartTold,
+    next: usize,
+)
+    requires { ⌜ Small (now text) frame × (part .tag ≤ 3) × (k + 8 ≤ length (now out)) ⌝ }
+    ensures { λ _. ⌜ now (out .exit) ≡ laid (now (out .entry)) k (countWords (countOf next part) (countSpan (now (text .entry)) frame from part)) ⌝ }
+{
+    if part.tag == 0 {
+        put4(&mut *out, k, 0, 0, 0, 0);
+        put4(out, k + 4, 0, 0, 0, 0);
+        return;
+    }
+    let span = frame::span_between(text, frame, TextPlace(from), TextPlace(part.end));
+    put4(&mut *out, k, part.tag as u32, count_value(part, next), 0, 0);
+    put4(out, k + 4, 0, 1, low(span.start.0), low(span.end.0));
+}
+
+// A type that starts at `start`.
+fn put_told_type(
+    out: &mut [u32],
+    k: usize,
+    text: &[u8],
+    frame: Frame,
+    start: usize,
+    typed: TypeTold,
+)
+    requires { ⌜ Small (now text) frame × (k + 8 ≤ length (now out)) ⌝ }
+    ensures { λ _. ⌜ now (out .exit) ≡ laid (now (out .entry)) k (four (lowOf start) (lowOf (typed .end)) 0 0 ++ spanWords 0 (typeSpan (now (text .entry)) frame start typed)) ⌝ }
+{
+    put4(&mut *out, k, low(start), low(typed.end), 0, 0);
+    if typed.word {
+        let span = frame::span_between(text, frame, TextPlace(start), TextPlace(typed.end));
+        put4(out, k + 4, 0, 1, low(span.start.0), low(span.end.0));
+        return;
+    }
+    put4(out, k + 4, 0, 0, 0, 0);
+}
+
+// The spec that starts at `at`, after its colon.
+fn put_told_spec(
+    out: &mut [u32],
+    k: usize,
+    text: &[u8],
+    frame: Frame,
+    at: usize,
+    spec: SpecTold,
+    next: usize,
+)
+    requires { ⌜ Small (now text) frame × (spec .width .tag ≤ 4) × (spec .precision .tag ≤ 3) × (k + 32 ≤ length (now out)) ⌝ }
+    ensures { λ _. ⌜ now (out .exit) ≡ laid (now (out .entry)) k (specWords (specOf (now (text .entry)) frame at next spec)) ⌝ }
+{
+    let align = spec.align;
+    let sign = spec.sign;
+    let width = spec.width;
+    let precision = spec.precision;
+    let typed = spec.typed;
+    put_told_fill(&mut *out, k, text, frame, at, spec.fill);
+    put4(
+        &mut *out,
+        k + 4,
+        align_word(align),
+        sign_word(sign),
+        bit(spec.alternate),
+        bit(spec.zero),
+    );
+    put_told_width(
+        &mut *out,
+        k + 8,
+        text,
+        frame,
+        spec.from,
+        spec.word,
+        width,
+        next,
+    );
+    put_told_count(&mut *out, k + 16, text, frame, width.end, precision, next);
+    put_told_type(out, k + 24, text, frame, precision.end, typed);
+}
+
+// The next argument's number after a star.
+fn after_star(part: PartTold, next: usize) -> usize
+    requires { ⌜ next < 0xFFFFE ⌝ }
+    ensures { λ r. ⌜ r ≡ afterStar next part ⌝ }
+{
+    if part.tag == 3 { next + 1 } else { next }
+}
+
+// Where reading stands after what is told: a star takes an argument's number, and then a place that is not written.
+fn after_told(state: State, told: PlaceholderTold) -> State
+    requires { ⌜ state .next < 0xFFFFE ⌝ }
+    ensures { λ r. ⌜ r ≡ toldState state told ⌝ }
+{
+    let spec = told.spec;
+    let place = told.place;
+    let at = TextPlace(told.on);
+    let after = after_star(spec.precision, state.next);
+    if place.tag == 0 {
+        return State {
+            at,
+            next: after + 1,
+        };
+    }
+    State { at, next: after }
+}
+
+// What is told, as the n-th piece.
+fn put_told(
+    out: &mut [u32],
+    n: usize,
+    text: &[u8],
+    frame: Frame,
+    brace: usize,
+    told: PlaceholderTold,
+    next: usize,
+)
+    requires { ⌜ Small (now text) frame × Sound (now text) told × (brace < 65535) × (next < 0xFFFFE) × (40 * n + 40 ≤ length (now out)) ⌝ }
+    ensures { λ _. ⌜ now (out .exit) ≡ laid (now (out .entry)) (40 * n) (argumentWords (argumentOf (now (text .entry)) frame brace next told)) ⌝ }
+{
+    let spec = told.spec;
+    let after = after_star(spec.precision, next);
+    if !told.colon {
+        put_bare(out, n, text, frame, brace, told, after);
+        return;
+    }
+    let k = 40 * n;
+    put_told_head(&mut *out, k, text, frame, brace, told, after);
+    put_told_spec(out, k + 8, text, frame, told.to + 1, spec, next);
+}
+
+// The record of the word `_` from one byte to another, where it stands there, and where the records then end.
+fn put_blank(
+    text: &[u8],
+    frame: Frame,
+    blank: bool,
+    from: usize,
+    to: usize,
+    errors: &mut [u32],
+    high: usize,
+) -> usize
+    requires { ⌜ Small (now text) frame × BackRoom high (now errors) (flawFault (blankFlaw blank from to) ∷ []) ⌝ }
+    ensures { λ r. ⌜ BackNotes (now (text .entry)) frame high (now (errors .entry)) (flawFault (blankFlaw blank from to) ∷ []) r (now (errors .exit)) ⌝ }
+{
+    if !blank {
+        return high;
+    }
+    let span = frame::span_between(text, frame, TextPlace(from), TextPlace(to));
+    put_bare_error(errors, high, 6, span);
+    high + 1
+}
+
+// Those of what is told: of its place, its width and its type.
+fn put_blanks(
+    text: &[u8],
+    frame: Frame,
+    at: usize,
+    told: PlaceholderTold,
+    errors: &mut [u32],
+    high: usize,
+) -> usize
+    requires { ⌜ Small (now text) frame × BackRoom high (now errors) (argumentSlots (blanksOf at told)) ⌝ }
+    ensures { λ r. ⌜ BackNotes (now (text .entry)) frame high (now (errors .entry)) (argumentSlots (blanksOf at told)) r (now (errors .exit)) ⌝ }
+{
+    let place = told.place;
+    let spec = told.spec;
+    let width = spec.width;
+    let precision = spec.precision;
+    let typed = spec.typed;
+    let high = put_blank(text, frame, place.blank, at, place.end, &mut *errors, high);
+    let high = put_blank(
+        text,
+        frame,
+        width.blank,
+        spec.from,
+        spec.word,
+        &mut *errors,
+        high,
+    );
+    put_blank(
+        text,
+        frame,
+        typed.blank,
+        precision.end,
+        typed.end,
+        errors,
+        high,
+    )
+}
+
+// The character that says why a closing brace was expected: the fill, after the colon, if it is `}`, else the opening brace.
+fn why_of(text: &[u8], told: PlaceholderTold, brace: TextPlace) -> TextPlace
+    requires { ⌜ told .to ≤ 65535 ⌝ }
+    ensures { λ r. ⌜ r ≡ whyTold (now (text .entry)) brace told ⌝ }
+{
+    if !told.colon {
+        return brace;
+    }
+    let at = told.to + 1;
+    let spec = told.spec;
+    if at == spec.fill {
+        return brace;
+    }
+    if code_at(text, at) == 0x7D {
+        return TextPlace(at);
+    }
+    brace
+}
+
+// What is said of the sign at a place.
+fn hint_of(sign: SignHint, at: TextPlace) -> Hint
+    ensures { λ r. ⌜ r ≡ placedHint sign at ⌝ }
+{
+    match sign {
+        SignHint::Silent => Hint::Silent,
+        SignHint::Misplaced => Hint::Misplaced(at),
+        SignHint::Comma => Hint::Comma(at),
+        SignHint::Plus => Hint::PlusFirst(at),
+        SignHint::Equals => Hint::Equals(at),
+    }
+}
+
+// The records where a closing brace is missing: that it is, and what is said of the sign there.
+fn put_missing(
+    text: &[u8],
+    frame: Frame,
+    brace: usize,
+    told: PlaceholderTold,
+    errors: &mut [u32],
+    extent: Extent,
+) -> Extent
+    requires { ⌜ Small (now text) frame × (told .to ≤ 65535) × Room (notedBy extent (now errors)) (missingTold (now text) brace told) ⌝ }
+    ensures { λ r. ⌜ Notes (now (text .entry)) frame extent (now (errors .entry)) (missingTold (now (text .entry)) brace told) r (now (errors .exit)) ⌝ }
+{
+    let sign = told.hint;
+    let opening = TextPlace(brace);
+    let at = TextPlace(told.close);
+    let why = why_of(text, told, opening);
+    let gap = closing::recover::gap_at(text, at, why);
+    let after = put_fault(text, frame, faults::of_gap(gap), &mut *errors, extent);
+    let hint = hint_of(sign, at);
+    if closing::recover::is_silent(hint) {
+        return after;
+    }
+    put_fault(text, frame, faults::of_hint(opening, hint), errors, after)
+}
+
+// Whether nothing is wrong in what is told: most of it.
+fn is_flawless(told: PlaceholderTold) -> bool
+    ensures { λ r. ⌜ (r ≡ true → Flawless told) ⌝ }
+{
+    let place = told.place;
+    let spec = told.spec;
+    let width = spec.width;
+    let typed = spec.typed;
+    if !told.closed {
+        return false;
+    }
+    if place.blank {
+        return false;
+    }
+    if width.blank {
+        return false;
+    }
+    !typed.blank
+}
+
+// The records of what is wrong in what is told.
+fn put_wrongs(
+    text: &[u8],
+    frame: Frame,
+    brace: usize,
+    told: PlaceholderTold,
+    errors: &mut [u32],
+    extent: Extent,
+) -> Extent
+    requires { ⌜ Small (now text) frame × (brace < 65535) × (told .to ≤ 65535) × Room (notedBy extent (now errors)) (toldSlots (now text) brace told) ⌝ }
+    ensures { λ r. ⌜ Notes (now (text .entry)) frame extent (now (errors .entry)) (toldSlots (now (text .entry)) brace told) r (now (errors .exit)) ⌝ }
+{
+    if is_flawless(told) {
+        return extent;
+    }
+    let high = put_blanks(text, frame, brace + 1, told, &mut *errors, extent.high);
+    let after = Extent {
+        pieces: extent.pieces,
+        low: extent.low,
+        high,
+        fronts: extent.fronts,
+    };
+    if told.closed {
+        return after;
+    }
+    put_missing(text, frame, brace, told, errors, after)
+}
+
+// The step where reading stands, written.
+pub fn write_next(
+    text: &[u8],
+    frame: Frame,
+    mode: Mode,
+    state: State,
+    pieces: &mut [u32],
+    errors: &mut [u32],
+    extent: Extent,
+) -> StepWritten
+    requires { ⌜ Small (now text) frame × (state .next < 0xFFFFE) × StepRoom (stepAt (now text) frame mode state) extent (now pieces) (now errors) ⌝ }
+    ensures { λ r. ⌜ SteppedOn (now (text .entry)) frame mode state extent (now (pieces .entry)) (now (errors .entry)) r (now (pieces .exit)) (now (errors .exit)) ⌝ }
+{
+    let at = state.at;
+    let i = at.0;
+    if text.len() <= i {
+        return StepWritten {
+            more: false,
+            state,
+            extent,
+        };
+    }
+    let b = text[i];
+    if b == b'{' {
+        return write_brace(text, frame, mode, state, pieces, errors, extent);
+    }
+    if b == b'}' {
+        return write_step(text, frame, mode, state, pieces, errors, extent);
+    }
+    let end = scan::string_end(text, at);
+    put_literal(pieces, extent.pieces, i, end.0);
+    StepWritten {
+        more: true,
+        state: State {
+            at: end,
+            next: state.next,
+        },
+        extent: one_more(extent),
+    }
+}
+
+// The step at an opening brace: the quick lane tells most.
+fn write_brace(
+    text: &[u8],
+    frame: Frame,
+    mode: Mode,
+    state: State,
+    pieces: &mut [u32],
+    errors: &mut [u32],
+    extent: Extent,
+) -> StepWritten
+    requires { ⌜ Small (now text) frame × (state .next < 0xFFFFE) × StepRoom (stepAt (now text) frame mode state) extent (now pieces) (now errors) × (getD (now text) (state .at .0) 0 ≡ 0x7B) × (state .at .0 < length (now text)) ⌝ }
+    ensures { λ r. ⌜ SteppedOn (now (text .entry)) frame mode state extent (now (pieces .entry)) (now (errors .entry)) r (now (pieces .exit)) (now (errors .exit)) ⌝ }
+{
+    match mode {
+        Mode::Format => {
+            let i = state.at.0;
+            if utf8::byte(text, i + 1) == b'{' {
+                return write_step(text, frame, mode, state, pieces, errors, extent);
+            }
+            let told = quick::tell(text, i + 1);
+            if told.ok {
+                put_told(pieces, extent.pieces, text, frame, i, told, state.next);
+                return StepWritten {
+                    more: true,
+                    state: after_told(state, told),
+                    extent: put_wrongs(text, frame, i, told, errors, one_more(extent)),
+                };
+            }
+            write_step(text, frame, mode, state, pieces, errors, extent)
+        }
+        Mode::InlineAsm => write_step(text, frame, mode, state, pieces, errors, extent),
+        Mode::Diagnostic => write_step(text, frame, mode, state, pieces, errors, extent),
+    }
+}

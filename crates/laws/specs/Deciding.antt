@@ -1,0 +1,127 @@
+-- The answer as it is decided, a refusal after the other: those before the text is read, then those of the lists' room; and that this is
+-- the answer. Rests on Answers.
+use Prim.Native.Nat.{ℕ}
+use mathlib.Core.Path.{_≡_, refl, sym, ap, _∙_}
+use mathlib.Core.Bool.{Bool, true, false, not}
+use mathlib.Core.List.{List, [], _∷_}
+use native.Mathlib.Omega.{arith}
+use lib.Dec.{ltb}
+use Rattle.utf8.specs.Choice.{pick}
+use Rattle.utf8.specs.Utf8.{validPrefix}
+use Rattle.frame.specs.declared.Frame.{Frame}
+use Rattle.frame.specs.declared.Mode.{Mode}
+use Rattle.reading.specs.Lists.{countsOf}
+use Rattle.reading.specs.Answers.{noCounts, answered, isStyled, isLong, isBroken, lacksNewline, frameFor, modeFor, refusal, firstOf, answerBy, answerOf}
+use Rattle.reading.specs.declared.Counts.{Counts}
+use Rattle.reading.specs.declared.Request.{Request}
+use Rattle.reading.specs.declared.Rooms.{Rooms}
+use Rattle.reading.specs.declared.Answer.{Answer}
+
+-- a refusal before anything is read
+abbrev pub refusedAs : ℕ → ℕ → Answer
+refusedAs number at = answered number at noCounts
+
+-- 6 to 9, or 0
+unfoldable pub roomFor : Counts → Rooms → ℕ
+roomFor c r =
+    pick (ltb (r .pieces) (c .pieces)) 6
+    (pick (ltb (r .errors) (c .errors)) 7
+    (pick (ltb (r .places) (c .places)) 8
+    (pick (ltb (r .lines) (c .lines)) 9
+    0)))
+
+-- a text that is read: done, or a list without room
+abbrev pub countedBy : List ℕ → Frame → Mode → Rooms → Answer
+countedBy t f m r = let c = countsOf t f m in answered (roomFor c r) 0 c
+
+unfoldable pub countedAnswer : List ℕ → List ℕ → Request → Rooms → Answer
+countedAnswer t s q r = countedBy t (frameFor t s q) (modeFor q) r
+
+-- refusals 1 to 5, and what is answered where there is none
+abbrev pub unlessRefused : List ℕ → List ℕ → Request → Answer → Answer
+unlessRefused t s q a =
+    pick (ltb 2 (q .mode)) (refusedAs 1 0)
+    (pick (isStyled (q .style) (q .given))
+    (pick (isLong t (q .given) s) (refusedAs 3 0)
+    (pick (isBroken t) (refusedAs 4 (validPrefix t))
+    (pick (lacksNewline t (q .newline)) (refusedAs 5 0)
+    a)))
+    (refusedAs 2 0))
+
+-- the answer before the text is read: such a refusal, or 0
+unfoldable pub openAnswer : List ℕ → List ℕ → Request → Answer
+openAnswer t s q = unlessRefused t s q (answered 0 0 noCounts)
+
+-- the order of the tests, whatever they say
+in-order : (mode styled long broken lacks p e a l : Bool) (prefix : ℕ) (c : Counts) →
+    answerBy
+    (firstOf
+    (refusal 1 mode ∷
+    refusal 2 (not styled) ∷
+    refusal 3 long ∷
+    refusal 4 broken ∷
+    refusal 5 lacks ∷
+    refusal 6 p ∷
+    refusal 7 e ∷
+    refusal 8 a ∷
+    refusal 9 l ∷
+    [])) prefix c ≡
+    pick mode (refusedAs 1 0)
+    (pick styled
+    (pick long (refusedAs 3 0)
+    (pick broken (refusedAs 4 prefix)
+    (pick lacks (refusedAs 5 0)
+    (answered (pick p 6 (pick e 7 (pick a 8 (pick l 9 0)))) 0 c))))
+    (refusedAs 2 0))
+unfolding pick firstOf answerBy
+in-order true styled long broken lacks p e a l prefix c = refl
+in-order false false long broken lacks p e a l prefix c = refl
+in-order false true true broken lacks p e a l prefix c = refl
+in-order false true false true lacks p e a l prefix c = refl
+in-order false true false false true p e a l prefix c = refl
+in-order false true false false false true e a l prefix c = refl
+in-order false true false false false false true a l prefix c = refl
+in-order false true false false false false false true l prefix c = refl
+in-order false true false false false false false false true prefix c = refl
+in-order false true false false false false false false false prefix c = refl
+
+-- THE ANSWER AS IT IS DECIDED
+pub answer-decided : (t s : List ℕ) (q : Request) (r : Rooms) → answerOf t s q r ≡ unlessRefused t s q (countedAnswer t s q r)
+unfolding answerOf countedAnswer roomFor
+answer-decided t s q r = in-order _ _ _ _ _ _ _ _ _ _ _
+
+-- WHAT AN ANSWER OF 0 SAYS: the text is within the limit and UTF-8, no list is too short, and the counts are the reading's
+pub record Passed (t s : List ℕ) (q : Request) (r : Rooms) : Type 0 where
+  pub short : isLong t (q .given) s ≡ false
+  pub whole : isBroken t ≡ false
+  pub room : roomFor (countsOf t (frameFor t s q) (modeFor q)) r ≡ 0
+  pub counts : answerOf t s q r .counts ≡ countsOf t (frameFor t s q) (modeFor q)
+
+-- where no test holds it is what is answered then
+none-held : (mode styled long broken lacks : Bool) (prefix : ℕ) (a : Answer) →
+    let x =
+    pick mode (refusedAs 1 0)
+    (pick styled
+    (pick long (refusedAs 3 0) (pick broken (refusedAs 4 prefix) (pick lacks (refusedAs 5 0) a)))
+    (refusedAs 2 0))
+    in
+    x .number ≡ 0 → (long ≡ false) × ((broken ≡ false) × (x ≡ a))
+unfolding pick
+none-held true styled long broken lacks prefix a e = absurd (omega arith)
+none-held false false long broken lacks prefix a e = absurd (omega arith)
+none-held false true true broken lacks prefix a e = absurd (omega arith)
+none-held false true false true lacks prefix a e = absurd (omega arith)
+none-held false true false false true prefix a e = absurd (omega arith)
+none-held false true false false false prefix a e = (refl, (refl, refl))
+
+pub answer-passed : (t s : List ℕ) (q : Request) (r : Rooms) → answerOf t s q r .number ≡ 0 → Passed t s q r
+unfolding countedAnswer
+answer-passed t s q r e =
+    let d = answer-decided t s q r in
+    let k = none-held _ _ _ _ _ _ _ (ap (λ (a : Answer). a .number) (sym d) ∙ e) in
+    record {
+      short = k .0;
+      whole = k .1 .0;
+      room = ap (λ (a : Answer). a .number) (sym (d ∙ k .1 .1)) ∙ e;
+      counts = ap (λ (a : Answer). a .counts) (d ∙ k .1 .1);
+    }

@@ -1,0 +1,1 @@
+// What holds of every reading: facts alone, no functions.

@@ -1,0 +1,52 @@
+-- `letters::is_start` meets its contract: below 0x80 the byte tells; the common scripts' ranges are part of the table, and the
+-- constant holds the definition's numbers, which are ascending; else the table is asked. Assumes nothing.
+use borrow.Author.Needs.{needs}
+use mathlib.Core.Path.{_≡_, sym, _∙_}
+use mathlib.Core.Bool.{true}
+use Rattle.letters.specs.Table.{member}
+use Rattle.letters.specs.Common.{common}
+use Rattle.letters.specs.QuestionLaws.{common-ascending, common-starts}
+use Rattle.letters.specs.AsciiLaws.{ascii-start}
+use Rattle.letters.proofs.is_start.Statement.{statement}
+use Rattle.letters.proofs.is_start.Tie as tie
+
+cast-ascii-start : tie.Need-cast-ascii-start
+cast-ascii-start c = search needs
+
+ascii-start-requires : tie.Need-ascii-start-requires
+ascii-start-requires c κs = search needs
+
+returns : tie.Need-returns
+returns c = c .ascii-start .ensures ∙ sym (ascii-start _ (c .before .if1 .taken))
+
+slice-aggregate-in-table : tie.Need-slice-aggregate-in-table
+slice-aggregate-in-table c = search needs
+
+in-table-requires : tie.Need-in-table-requires
+unfolding common
+in-table-requires c κs = common-ascending
+
+returns-2 : tie.Need-returns-2
+unfolding common
+returns-2 c =
+    let m : member common (c .before .before .before .before .args .c) ≡ true = sym (c .before .in-table .ensures) ∙ c .if2 .taken in
+    sym (common-starts _ m)
+
+in-start-requires : tie.Need-in-start-requires
+in-start-requires c κs = search needs
+
+returns-3 : tie.Need-returns-3
+returns-3 c = c .in-start .ensures
+
+pub is-start-spec : {M : Type 1} → statement M
+is-start-spec =
+    tie.close
+    (tie.spec
+    cast-ascii-start
+    ascii-start-requires
+    returns
+    slice-aggregate-in-table
+    in-table-requires
+    returns-2
+    in-start-requires
+    returns-3)

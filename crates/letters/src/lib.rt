@@ -1,0 +1,215 @@
+// Whether a character is whitespace, starts an identifier or continues one, and the runs of such characters.
+use crate::common::COMMON;
+use crate::tables::CONTINUE;
+use crate::tables::SPACE;
+use crate::tables::START;
+use utf8::Seen;
+ghost use mathlib.Core.Path.{_≡_};
+ghost use mathlib.Core.Bool.{false};
+ghost use Prim.Native.Nat.{_<_};
+ghost use lib.Dec.{T};
+ghost use lib.ListN.{length, getD};
+ghost use Rattle.utf8.specs.Chars.{runEnd};
+ghost use Rattle.letters.specs.Table.{member, ascending};
+ghost use Rattle.letters.specs.Ascii.{asciiSpace, asciiStart, asciiContinue};
+ghost use Rattle.letters.specs.Questions.{isSpace, isStart, isContinue};
+ghost use Rattle.letters.specs.Asked.{asked};
+
+mod common; // common.rt: the scripts that names are mostly written in
+mod tables; // tables.rt: White_Space, identifier start and continuation
+
+// Whether a character is White_Space. ASCII is answered without the table.
+pub fn is_space(c: u32) -> bool
+    ensures { λ r. ⌜ r ≡ isSpace c ⌝ }
+{
+    if c < 0x80 {
+        return ascii_space(c as u8);
+    }
+    in_table(&SPACE, c)
+}
+
+// Whether a character can start an identifier: `_` or XID_Start. ASCII and the common scripts are answered without the long table.
+pub fn is_start(c: u32) -> bool
+    ensures { λ r. ⌜ r ≡ isStart c ⌝ }
+{
+    if c < 0x80 {
+        return ascii_start(c as u8);
+    }
+    if in_table(&COMMON, c) {
+        return true;
+    }
+    in_start(c)
+}
+
+// Whether a character can continue an identifier: XID_Continue.
+pub fn is_continue(c: u32) -> bool
+    ensures { λ r. ⌜ r ≡ isContinue c ⌝ }
+{
+    if c < 0x80 {
+        return ascii_continue(c as u8);
+    }
+    if in_table(&COMMON, c) {
+        return true;
+    }
+    in_continue(c)
+}
+
+// Whether an ASCII byte is whitespace: a space, or 9 to 13.
+fn ascii_space(b: u8) -> bool
+    ensures { λ r. ⌜ r ≡ asciiSpace b ⌝ }
+{
+    if b == 0x20 {
+        return true;
+    }
+    if b < 9 {
+        return false;
+    }
+    b <= 13
+}
+
+// Whether a byte is an ASCII letter or `_`. Small letters come first: they are the most.
+pub fn ascii_start(b: u8) -> bool
+    ensures { λ r. ⌜ r ≡ asciiStart b ⌝ }
+{
+    if 0x61 <= b {
+        return b <= 0x7A;
+    }
+    if b < 0x41 {
+        return false;
+    }
+    if b <= 0x5A {
+        return true;
+    }
+    b == 0x5F
+}
+
+// Whether a byte is an ASCII letter, a digit or `_`.
+fn ascii_continue(b: u8) -> bool
+    ensures { λ r. ⌜ r ≡ asciiContinue b ⌝ }
+{
+    if 0x61 <= b {
+        return b <= 0x7A;
+    }
+    if b < 0x30 {
+        return false;
+    }
+    if b <= 0x39 {
+        return true;
+    }
+    ascii_start(b)
+}
+
+// The long tables stand in functions of their own: a function that names a constant array stores it anew in each call.
+fn in_start(c: u32) -> bool
+    ensures { λ r. ⌜ r ≡ isStart c ⌝ }
+{
+    in_table(&START, c)
+}
+
+fn in_continue(c: u32) -> bool
+    ensures { λ r. ⌜ r ≡ isContinue c ⌝ }
+{
+    in_table(&CONTINUE, c)
+}
+
+// Where the whitespace from `at` ends. An ASCII character above the space ends it at once.
+pub fn space_end(text: &[u8], at: usize) -> usize
+    ensures { λ r. ⌜ r ≡ runEnd isSpace (now (text .entry)) at ⌝ }
+{
+    if at < text.len() {
+        let b = text[at];
+        if 0x20 < b {
+            if b < 0x80 {
+                return at;
+            }
+        }
+    }
+    run_end(Question::Space, text, at)
+}
+
+// Where the continuations from `at` end. ASCII is passed a byte at a time.
+pub fn continue_end(text: &[u8], at: usize) -> usize
+    ensures { λ r. ⌜ r ≡ runEnd isContinue (now (text .entry)) at ⌝ }
+{
+    let i = ascii_continue_end(text, at);
+    if i < text.len() {
+        if text[i] < 0x80 {
+            return i;
+        }
+        return run_end(Question::Continue, text, i);
+    }
+    i
+}
+
+// The place after the ASCII continuations at `at`.
+fn ascii_continue_end(text: &[u8], at: usize) -> usize
+    ensures { λ r. ⌜ runEnd isContinue (now (text .entry)) r ≡ runEnd isContinue (now (text .entry)) at ⌝ }
+    ensures { λ r. ⌜ (r < length (now (text .entry)) → asciiContinue (getD (now (text .entry)) r 0) ≡ false) ⌝ }
+{
+    let mut i = at;
+    while i < text.len() {
+        if !ascii_continue(text[i]) {
+            return i;
+        }
+        i += 1;
+    }
+    i
+}
+
+// A question that a run of characters is asked.
+enum Question {
+    Space,
+    Continue,
+}
+
+fn answers(question: Question, c: u32) -> bool
+    ensures { λ r. ⌜ r ≡ asked question c ⌝ }
+{
+    match question {
+        Question::Space => is_space(c),
+        Question::Continue => is_continue(c),
+    }
+}
+
+// Where the run of characters from `at` that answer a question with yes ends.
+fn run_end(question: Question, text: &[u8], at: usize) -> usize
+    ensures { λ r. ⌜ r ≡ runEnd (asked question) (now (text .entry)) at ⌝ }
+{
+    let mut i = at;
+    loop {
+        match utf8::peek(text, i) {
+            Seen::Char { code, width } => {
+                if answers(question, code) {
+                    i += width;
+                } else {
+                    return i;
+                }
+            }
+            Seen::End => {
+                return i;
+            }
+        }
+    }
+}
+
+// Whether a range of the table holds `c`, by halving.
+fn in_table(table: &[u32], c: u32) -> bool
+    requires { ⌜ T (ascending 0 (now table)) ⌝ }
+    ensures { λ r. ⌜ r ≡ member (now (table .entry)) c ⌝ }
+{
+    let mut lo = 0;
+    let mut hi = table.len() / 2;
+    while lo < hi {
+        let mid = lo + (hi - lo) / 2;
+        if c < table[2 * mid] {
+            hi = mid;
+        } else {
+            if table[2 * mid + 1] < c {
+                lo = mid + 1;
+            } else {
+                return true;
+            }
+        }
+    }
+    false
+}

@@ -1,0 +1,95 @@
+// One step of the reader: a doubled brace with the run after it, a run, a placeholder, a lone `}`, or the end.
+use frame::Frame;
+use frame::Mode;
+use frame::TextPlace;
+use frame::TextRange;
+use reading::Onward;
+use reading::State;
+use reading::Step;
+ghost use mathlib.Core.Path.{_≡_};
+ghost use Prim.Native.Nat.{_<_};
+ghost use Rattle.frame.specs.Bounds.{Small};
+ghost use Rattle.reading.specs.Steps.{afterOpen, afterClose, stepAt, onward};
+
+pub mod text; // text.rt: a literal's bytes
+
+// After the `{` at `brace`: a second one doubles it, and the literal's view starts there; else a placeholder.
+fn after_open(
+    text: &[u8],
+    frame: Frame,
+    mode: Mode,
+    brace: TextPlace,
+    at: TextPlace,
+    next: usize,
+) -> Step
+    requires { ⌜ Small (now text) frame × (next < 0xFFFFE) ⌝ }
+    ensures { λ r. ⌜ r ≡ afterOpen (now (text .entry)) frame mode brace at next ⌝ }
+{
+    let second = scan::consume(text, at, b'{');
+    let past = second.at;
+    if second.ate {
+        let end = scan::string_end(text, past);
+        return Step::Literal(TextRange { start: at, end });
+    }
+    Step::Placeholder(closing::whole::placeholder(text, frame, mode, brace, at, next))
+}
+
+// After the `}` at `brace`: a second one doubles it; alone it stops the reading.
+fn after_close(text: &[u8], brace: TextPlace, at: TextPlace) -> Step
+    ensures { λ r. ⌜ r ≡ afterClose (now (text .entry)) brace at ⌝ }
+{
+    let second = scan::consume(text, at, b'}');
+    let past = second.at;
+    if !second.ate {
+        return Step::Stop(brace);
+    }
+    let end = scan::string_end(text, past);
+    Step::Literal(TextRange { start: at, end })
+}
+
+// The step where reading stands.
+pub fn step_at(text: &[u8], frame: Frame, mode: Mode, state: State) -> Step
+    requires { ⌜ Small (now text) frame × (state .next < 0xFFFFE) ⌝ }
+    ensures { λ r. ⌜ r ≡ stepAt (now (text .entry)) frame mode state ⌝ }
+{
+    let at = state.at;
+    if text.len() <= at.0 {
+        return Step::End;
+    }
+    let open = scan::consume(text, at, b'{');
+    let past = open.at;
+    if open.ate {
+        return after_open(text, frame, mode, at, past, state.next);
+    }
+    let close = scan::consume(text, at, b'}');
+    let past = close.at;
+    if close.ate {
+        return after_close(text, at, past);
+    }
+    let end = scan::string_end(text, at);
+    Step::Literal(TextRange { start: at, end })
+}
+
+// Where reading goes on after a step from a state.
+pub fn go_on(state: State, step: Step) -> Onward
+    ensures { λ r. ⌜ r ≡ onward state step ⌝ }
+{
+    match step {
+        Step::End => Onward::Over,
+        Step::Stop(_) => Onward::Over,
+        Step::Literal(view) => {
+            let at = view.end;
+            Onward::To(State {
+                at,
+                next: state.next,
+            })
+        }
+        Step::Placeholder(read) => {
+            let at = read.at;
+            Onward::To(State {
+                at,
+                next: read.next,
+            })
+        }
+    }
+}

@@ -1,0 +1,256 @@
+// UTF-8 at any place of any bytes: the character there, and the longest valid prefix.
+ghost use mathlib.Core.Path.{_≡_};
+ghost use Prim.Native.Nat.{_+_, _≤_};
+ghost use lib.ListN.{length, getD, drop};
+ghost use Rattle.utf8.specs.Choice.{within};
+ghost use Rattle.utf8.specs.Utf8.{low, high, code2, code3, code4, sequenceOf, sequenceAt, charOf, peekAt, validPrefix};
+ghost use Rattle.utf8.specs.Utf8Laws.{validEnd};
+ghost use Rattle.utf8.specs.Blocks.{one, howMany, isHigh};
+
+// What stands at a place of a text: a character with its width in bytes, or nothing, past the end.
+pub enum Seen {
+    Char { code: u32, width: usize },
+    End,
+}
+
+// A well-formed sequence: the code that it spells and its width in bytes. Width 0: none.
+pub struct Sequence {
+    pub code: u32,
+    pub width: usize,
+}
+
+// The character at `at`. Bytes that are not UTF-8 are U+FFFD, one byte wide.
+pub fn peek(text: &[u8], at: usize) -> Seen
+    ensures { λ r. ⌜ r ≡ peekAt (now (text .entry)) at ⌝ }
+{
+    if text.len() <= at {
+        return Seen::End;
+    }
+    let b = text[at];
+    if b < 0x80 {
+        return Seen::Char {
+            code: wide(b),
+            width: 1,
+        };
+    }
+    char_of(sequence_at(text, at))
+}
+
+// The length of the longest prefix that is UTF-8.
+pub fn valid_prefix(text: &[u8]) -> usize
+    ensures { λ r. ⌜ r ≡ validPrefix (now (text .entry)) ⌝ }
+{
+    let mut i = 0;
+    loop {
+        i = ascii_end(text, i);
+        let s = sequence_at(text, i);
+        let w = s.width;
+        if w == 0 {
+            return i;
+        }
+        i += w;
+    }
+}
+
+// The place after the blocks of sixteen ASCII bytes at `at`. A block is one test, so a text of plain letters is passed at its speed.
+fn ascii_end(text: &[u8], at: usize) -> usize
+    requires { ⌜ at ≤ length (now text) ⌝ }
+    ensures { λ r. ⌜ (at ≤ r) × (r ≤ length (now (text .entry))) × (validEnd (now (text .entry)) r ≡ validEnd (now (text .entry)) at) ⌝ }
+{
+    let mut i = at;
+    while i + 16 <= text.len() {
+        if highs(text, i) + highs(text, i + 8) != 0 {
+            return i;
+        }
+        i += 16;
+    }
+    i
+}
+
+// How many of the eight bytes at `at` are 80 (hex) or above.
+fn highs(text: &[u8], at: usize) -> u8
+    requires { ⌜ at + 8 ≤ length (now text) ⌝ }
+    ensures { λ r. ⌜ (r ≡ howMany isHigh (now (text .entry)) at 8) × (r ≤ 8) ⌝ }
+{
+    high(text[at])
+        + high(text[at + 1])
+        + high(text[at + 2])
+        + high(text[at + 3])
+        + high(text[at + 4])
+        + high(text[at + 5])
+        + high(text[at + 6])
+        + high(text[at + 7])
+}
+
+// 1 for a byte that is 80 (hex) or above, else 0: no test, so that eight of them are computed at once.
+fn high(b: u8) -> u8
+    ensures { λ r. ⌜ (r ≡ one (isHigh b)) × (r ≤ 1) ⌝ }
+{
+    b / 128
+}
+
+// The well-formed sequence at `at`; width 0: none.
+fn sequence_at(text: &[u8], at: usize) -> Sequence
+    ensures { λ r. ⌜ r ≡ sequenceAt (drop at (now (text .entry))) ⌝ }
+{
+    if text.len() <= at {
+        return Sequence { code: 0, width: 0 };
+    }
+    let b = text[at];
+    if b < 0x80 {
+        return Sequence {
+            code: wide(b),
+            width: 1,
+        };
+    }
+    let c = byte(text, at + 1);
+    let d = byte(text, at + 2);
+    let e = byte(text, at + 3);
+    sequence_of(b, c, d, e)
+}
+
+// A sequence as a character: U+FFFD, one byte wide, where there is none.
+fn char_of(s: Sequence) -> Seen
+    ensures { λ r. ⌜ r ≡ charOf s ⌝ }
+{
+    let w = s.width;
+    if w == 0 {
+        return Seen::Char {
+            code: 0xFFFD,
+            width: 1,
+        };
+    }
+    Seen::Char {
+        code: s.code,
+        width: w,
+    }
+}
+
+// The well-formed sequence that four bytes begin with, by table 3-7 of the Unicode Standard; width 0: none.
+fn sequence_of(b: u8, c: u8, d: u8, e: u8) -> Sequence
+    ensures { λ r. ⌜ r ≡ sequenceOf b c d e ⌝ }
+{
+    let none = Sequence { code: 0, width: 0 };
+    if b < 0x80 {
+        return Sequence {
+            code: wide(b),
+            width: 1,
+        };
+    }
+    if b < 0xC2 {
+        return none;
+    }
+    if !second(b, c) {
+        return none;
+    }
+    if b < 0xE0 {
+        return Sequence {
+            code: two(b, c),
+            width: 2,
+        };
+    }
+    if !later(d) {
+        return none;
+    }
+    if b < 0xF0 {
+        return Sequence {
+            code: three(b, c, d),
+            width: 3,
+        };
+    }
+    if !later(e) {
+        return none;
+    }
+    if b < 0xF5 {
+        return Sequence {
+            code: four(b, c, d, e),
+            width: 4,
+        };
+    }
+    none
+}
+
+// Whether `c` can stand second after `b`.
+fn second(b: u8, c: u8) -> bool
+    ensures { λ r. ⌜ r ≡ within c (low b) (high b) ⌝ }
+{
+    let lo = low_of(b);
+    let hi = high_of(b);
+    in_range(c, lo, hi)
+}
+
+// Whether `d` can stand third or fourth.
+fn later(d: u8) -> bool
+    ensures { λ r. ⌜ r ≡ within d 0x80 0xBF ⌝ }
+{
+    in_range(d, 0x80, 0xBF)
+}
+
+// The least second byte after `b`.
+fn low_of(b: u8) -> u8
+    ensures { λ r. ⌜ r ≡ low b ⌝ }
+{
+    if b == 0xE0 {
+        0xA0
+    } else {
+        if b == 0xF0 { 0x90 } else { 0x80 }
+    }
+}
+
+// The greatest second byte after `b`.
+fn high_of(b: u8) -> u8
+    ensures { λ r. ⌜ r ≡ high b ⌝ }
+{
+    if b == 0xED {
+        0x9F
+    } else {
+        if b == 0xF4 { 0x8F } else { 0xBF }
+    }
+}
+
+fn in_range(x: u8, lo: u8, hi: u8) -> bool
+    ensures { λ r. ⌜ r ≡ within x lo hi ⌝ }
+{
+    if lo <= x {
+        if x <= hi { true } else { false }
+    } else {
+        false
+    }
+}
+
+// The code that two bytes spell.
+fn two(b: u8, c: u8) -> u32
+    requires { ⌜ (0xC0 ≤ b) × (0x80 ≤ c) ⌝ }
+    ensures { λ r. ⌜ r ≡ code2 b c ⌝ }
+{
+    (wide(b) - 0xC0) * 64 + (wide(c) - 0x80)
+}
+
+// The code that three bytes spell.
+fn three(b: u8, c: u8, d: u8) -> u32
+    requires { ⌜ (0xE0 ≤ b) × (0x80 ≤ c) × (0x80 ≤ d) ⌝ }
+    ensures { λ r. ⌜ r ≡ code3 b c d ⌝ }
+{
+    (wide(b) - 0xE0) * 4096 + (wide(c) - 0x80) * 64 + (wide(d) - 0x80)
+}
+
+// The code that four bytes spell.
+fn four(b: u8, c: u8, d: u8, e: u8) -> u32
+    requires { ⌜ (0xF0 ≤ b) × (0x80 ≤ c) × (0x80 ≤ d) × (0x80 ≤ e) ⌝ }
+    ensures { λ r. ⌜ r ≡ code4 b c d e ⌝ }
+{
+    (wide(b) - 0xF0) * 262144 + (wide(c) - 0x80) * 4096 + (wide(d) - 0x80) * 64 + (wide(e) - 0x80)
+}
+
+// The byte at `at`, and 0 past the end.
+pub fn byte(text: &[u8], at: usize) -> u8
+    ensures { λ r. ⌜ r ≡ getD (now (text .entry)) at 0 ⌝ }
+{
+    if at < text.len() { text[at] } else { 0 }
+}
+
+fn wide(x: u8) -> u32
+    ensures { λ r. ⌜ r ≡ x ⌝ }
+{
+    x as u32
+}

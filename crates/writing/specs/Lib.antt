@@ -1,0 +1,2 @@
+-- What the functions that write a step come to.
+pub mod StepsWritten
