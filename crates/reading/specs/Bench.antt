@@ -1,4 +1,4 @@
--- The template bench of document 01, B1 to B15, further cases and refusals: tables with every field of every record, one statement
+-- The template bench of document 01, B1 to B15, further cases, notices and refusals: tables with every field of every record, one statement
 -- that the checker computes. Format, no style, no snippet, where nothing else is said.
 use Prim.Native.Nat.{ℕ}
 use mathlib.Core.Path.{_≡_, refl}
@@ -171,6 +171,21 @@ further =
     } ∷
     []
 
+-- line marks in notices: Diagnostic source literals with a newline in the text after the colon, a field's too, and in plain whitespace
+abbrev pub notices : List Case
+notices =
+    -- a newline after the colon ends a line, and whitespace at the next one's start is cut from it
+    source 2 "{:\n x}" "r\"{:\n x}\"" (arg 0 6 (Place.Next 0) (span 3 3) (typed 2 5 (some 3 7)) ∷ []) [] (span 2 8 ∷ [])
+    (span 2 4 ∷ span 6 8 ∷ []) ∷
+    -- so does one after the colon of a field met in recovery, closed or not
+    source 2 "{a.b:\nc}" "r\"{a.b:\nc}\"" (arg 0 8 (named 1 2) (span 3 4) (empty 2) ∷ [])
+    (bareError 13 (span 3 6) ∷ errorOf 2 (span 4 4) (some 2 3) (quoted 2 3) none ∷ []) [] (span 2 7 ∷ span 8 10 ∷ []) ∷
+    source 2 "{a.:\n" "r\"{a.:\n\"" (arg 0 5 (named 1 2) (span 3 4) (empty 2) ∷ []) (errorOf 2 (span 4 4) (some 2 3) (quoted 2 3) none ∷ []) []
+    (span 2 6 ∷ span 7 7 ∷ []) ∷
+    -- a newline in a placeholder's plain whitespace ends none
+    source 2 "{a\n:x}" "r\"{a\n:x}\"" (arg 0 6 (named 1 2) (span 3 5) (typed 4 5 (some 5 7)) ∷ []) [] (span 2 8 ∷ []) (span 2 8 ∷ []) ∷
+    []
+
 -- a call's answer, and the one that it is to have
 pub record Asked : Type 0 where
   pub is : Answer
@@ -199,12 +214,15 @@ refused =
     asked (answerOf (bytesOf "{a.b}") [] (ask 0 Hashes.Plain false false) (rooms 1 1 0 0)) (answered 7 0 (counts 1 2 0 0)) ∷
     asked (answerOf (bytesOf "{}") (bytesOf "r\"{}\"") (ask 0 (Hashes.Raw 0) true false) (rooms 1 0 0 0)) (answered 8 0 (counts 1 0 1 1)) ∷
     asked (answerOf (bytesOf "{}") (bytesOf "r\"{}\"") (ask 0 (Hashes.Raw 0) true false) (rooms 1 0 1 0)) (answered 9 0 (counts 1 0 1 1)) ∷
+    -- the first notice with room for one line: by the same count
+    asked (answerOf (bytesOf "{:\n x}") (bytesOf "r\"{:\n x}\"") (ask 2 (Hashes.Raw 0) true false) (rooms 1 0 1 1)) (answered 9 0 (counts 1 0 1 2)) ∷
     []
 
 -- THE BENCH: each case is what the definitions give for its call
 pub bench :
     (allGiven table ≡ table) ×
     (allGiven further ≡ further) ×
+    (allGiven notices ≡ notices) ×
     (answers refused ≡ expectations refused)
 unfolding
     allGiven bytesOf answers expectations pick within member start continue space isSpace isStart isContinue low high sequenceOf charOf sequenceAt decode peekAt
@@ -217,4 +235,4 @@ unfolding
     faultsOf recordOf before charsIn newlines cut lineAfter endedLines lineStart gather pieces frontOnly backOnly reversed listed records
     faults errors places literalChars toTheEnd sameSpan isLast linesIn lines countsOf isLong isBroken endsInNewline lacksNewline modeOf
     frameFor firstOf answerBy answerOf
-bench = (refl, refl, refl)
+bench = (refl, refl, refl, refl)

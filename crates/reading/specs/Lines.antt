@@ -1,5 +1,5 @@
--- The lines of literal text. "A newline ends a line when it stands outside placeholders. Whitespace at a line's start is cut from it when
--- read as literal text." In Diagnostic mode the text after a colon is literal text too.
+-- The lines of literal text: a newline in it ends a line, and whitespace at a line's start is cut from it. In Diagnostic mode the text after a
+-- colon is literal text too, that of a field met in recovery as well; plain whitespace of a placeholder never is.
 use Prim.Native.Nat.{ℕ, suc, _+_}
 use Prim.Native.Char.{code}
 use mathlib.Core.List.{List, [], _∷_}

@@ -2,7 +2,7 @@
 
 use oracle::exit;
 use oracle::make::every::Every;
-use oracle::make::{bench, random};
+use oracle::make::{bench, notices, random};
 use std::io::{self, BufWriter, Write};
 use std::process::ExitCode;
 
@@ -10,6 +10,7 @@ const USAGE: &str = "\
 usage: streams all LENGTH ALPHABET [PREFIX]   every text up to LENGTH characters, in each mode
        streams random SEED COUNT [KIND..]     seeded cases; kinds: text frame lines rooms damaged
                                               refused limits
+       streams notices SEED COUNT             seeded Diagnostic source literals of several lines
        streams bench                          B1 to B15
 In ALPHABET and PREFIX \\n is a newline, \\t a tabulator and \\\\ a backslash.";
 
@@ -37,6 +38,9 @@ fn make(words: &[&str], output: &mut impl Write) -> Option<io::Result<()>> {
             let kinds = kinds.iter().map(|name| random::kind_named(name));
             let kinds = kinds.collect::<Option<Vec<_>>>()?;
             Some(random::write(seed.parse().ok()?, count.parse().ok()?, &kinds, output))
+        }
+        ["notices", seed, count] => {
+            Some(notices::write(seed.parse().ok()?, count.parse().ok()?, output))
         }
         ["bench"] => Some(bench::cases().iter().try_for_each(|draft| draft.case().write(output))),
         _ => None,

@@ -1,10 +1,11 @@
-//! The makers of cases: every short text, the bench, and seeded random cases.
+//! The makers of cases: every short text, the bench, seeded random cases, and notices.
 
 pub mod bench;
 pub mod dice;
 pub mod every;
 pub mod frames;
 pub mod limits;
+pub mod notices;
 pub mod random;
 pub mod texts;
 
