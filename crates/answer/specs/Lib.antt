@@ -1,2 +1,3 @@
+-- What the functions that decide a call come to, and laws of it.
 pub mod Decisions
 pub mod DecisionLaws

@@ -168,7 +168,7 @@ fn admitted(text: &[u8], snippet: &[u8], request: Request) -> Decision
     }
 }
 
-// The refusals that need no reading, the checks in document 01's order; 0 where there is none, with the frame and the mode.
+// The refusals that need no reading, the checks in the rules's order; 0 where there is none, with the frame and the mode.
 pub fn opened(text: &[u8], snippet: &[u8], request: Request) -> Decision
     ensures { λ r. ⌜ Opened (now (text .entry)) (now (snippet .entry)) request r ⌝ }
 {

@@ -19,7 +19,6 @@ use Rattle.reading.specs.declared.Piece.{Piece}
 use Rattle.reading.specs.Answers.{isLong, frameFor, modeFor, answerOf}
 use Rattle.laws.specs.Deciding.{answer-passed}
 use Rattle.laws.specs.AnswerLaws.{small-frame, not-long}
-use Rattle.reading.specs.declared.Answer.{Answer}
 use Rattle.reading.specs.declared.Request.{Request}
 use Rattle.reading.specs.declared.Rooms.{Rooms}
 use Rattle.words.specs.Layout.{pieceWords, errorWords}

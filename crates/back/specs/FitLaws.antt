@@ -33,7 +33,8 @@ use Rattle.placeholder.specs.Specs.{typeOnly, diagnosticType, afterColon, specR
 use Rattle.placeholder.specs.Arguments.{resolved, argumentRead}
 use Rattle.placeholder.specs.BoundLaws.{spec-next, argument-next}
 use Rattle.closing.specs.OnwardLaws.{argument-in, recover-in}
-use Rattle.closing.specs.Recovery.{gapAt, cleanFlaws, passedTo, afterQuestion, signHint, fieldHint, fieldRead, recoverRead}
+use Rattle.closing.specs.Recovery.{gapAt, cleanFlaws, passedTo, fieldHint, fieldRead, recoverRead}
+use Rattle.closing.specs.Recovering.{afterQuestion, signHint, recovering, recover-table}
 use Rattle.closing.specs.Defaults.{isIdentifier}
 use Rattle.closing.specs.Wholes.{missingRead, placeholderRead}
 use Rattle.placeholder.specs.declared.ArgumentFlaws.{ArgumentFlaws}
@@ -538,18 +539,19 @@ module _ (t : List ℕ) (f : Frame) (small : Small t f) (end : Below (f .end .0)
 
     -- what is passed where a closing brace is missing
     recover-fits : (from : TextPlace) (i : Bool) (at : TextPlace) → In t at → RecoveryFits t (recoverRead t f m from i at n)
-    unfolding recoverRead
+    unfolding recovering
     recover-fits from i at h =
         let past = pastAt t at in
         let P = RecoveryFits t in
         let none = passed-fits t at n Hint.Silent (λ _. tt) in
-        pick-elim P _
+        rw (recover-table t f m from i at n)
+        (pick-elim P _
         (λ _.
         pick-elim P _ (λ _. question-fits at past (past-in t at h) n)
         (λ _.
         pick-elim P _ (λ _. pick-elim P _ (λ _. field-fits from at h) (λ _. none))
         (λ _. passed-fits t past n (signHint t at past) (sign-fits at past h))))
-        (λ _. none)
+        (λ _. none))
 
   -- a closing brace that is missing
   gap-fits : (at why : TextPlace) → In t at → GapFits t (gapAt t at why)

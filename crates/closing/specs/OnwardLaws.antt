@@ -24,7 +24,8 @@ use Rattle.placeholder.specs.Format.{formatRead}
 use Rattle.placeholder.specs.Specs.{diagnosticType, afterColon, specRead}
 use Rattle.placeholder.specs.Arguments.{argumentRead}
 use Rattle.placeholder.specs.BoundLaws.{argument-next}
-use Rattle.closing.specs.Recovery.{afterQuestion, fieldRead, recoverRead}
+use Rattle.closing.specs.Recovery.{fieldRead, recoverRead}
+use Rattle.closing.specs.Recovering.{afterQuestion, recovering, recover-table}
 use Rattle.closing.specs.Wholes.{missingRead, placeholderRead}
 use Rattle.placeholder.specs.declared.Hex.{Hex}
 use Rattle.frame.specs.declared.Mode.{Mode}
@@ -221,14 +222,15 @@ module _ (t : List ℕ) where
     -- over all that is passed where a closing brace is missing
     pub recover-onward : (from : TextPlace) (i : Bool) (at : TextPlace) (n : ℕ) →
         Onward t at (recoverRead t f m from i at n .at)
-    unfolding recoverRead
+    unfolding recovering
     recover-onward from i at n =
         let P : Recovery → Type 0 = λ r. Onward t at (r .at) in
-        pick-elim P _
+        rw (recover-table t f m from i at n)
+        (pick-elim P _
         (λ _.
         pick-elim P _ (λ _. then (passes at) (after-question at _ n))
         (λ _. pick-elim P _ (λ _. pick-elim P _ (λ _. field from at n) (λ _. stay at)) (λ _. passes at)))
-        (λ _. stay at)
+        (λ _. stay at))
 
     -- over the same, from an argument that was read
     missing : (brace : TextPlace) (a : ArgumentRead) (at : TextPlace) → Onward t at (missingRead t f m brace a at .at)
@@ -289,14 +291,15 @@ module _ (t : List ℕ) (f : Frame) (m : Mode) where
   -- where a closing brace is missing at most two arguments are taken
   pub recover-next : (from : TextPlace) (i : Bool) (at : TextPlace) (n : ℕ) →
       recoverRead t f m from i at n .next ≤ n + 2
-  unfolding recoverRead
+  unfolding recovering
   recover-next from i at n =
       let P : Recovery → Type 0 = λ r. r .next ≤ n + 2 in
-      pick-elim P _
+      rw (recover-table t f m from i at n)
+      (pick-elim P _
       (λ _.
       pick-elim P _ (λ _. omega (arith, after-question-next t at (pastAt t at) n))
       (λ _. pick-elim P _ (λ _. pick-elim P _ (λ _. field-next from at n) (λ _. omega arith)) (λ _. omega arith)))
-      (λ _. omega arith)
+      (λ _. omega arith))
 
   -- and so with the argument before it: two more
   missing-next : (brace : TextPlace) (a : ArgumentRead) (at : TextPlace) → missingRead t f m brace a at .next ≤ a .next + 2

@@ -72,33 +72,6 @@ abbrev pub debugFirst : TextPlace → ℕ → WordRead → Recovery
 debugFirst at n w =
     recovered (w .word .end) n (w .flaw) cleanFlaws (Hint.DebugFirst at (w .word)) (rangeOf (w .word .end) (w .word .end))
 
--- "8 `?` before `:`; 9 `?}` without colon"; any other `?` is passed and nothing is said (R8.2, K8, K9)
-unfoldable pub afterQuestion : List ℕ → TextPlace → TextPlace → ℕ → Recovery
-afterQuestion t at past n =
-    let colon = consumed t past (code ":") in
-    pick (isAt t past (code "}")) (passedTo past n (Hint.NoColon at))
-    (pick (colon .ate) (debugFirst at n (wordRead t (colon .at))) (passedTo past n Hint.Silent))
-
--- "10 `=}`; 11 align misplaced; 12 `+` without colon; 15 `,`" (R8.2, K10, K11, K12, K15)
-unfoldable pub signHint : List ℕ → TextPlace → TextPlace → Hint
-signHint t at past =
-    pick (isAlign t at) (Hint.Misplaced at)
-    (pick (isAt t at (code ",")) (Hint.Comma at)
-    (pick (isAt t at (code "+")) (Hint.PlusFirst at)
-    (pick (both (isAt t at (code "=")) (isAt t past (code "}"))) (Hint.Equals at) Hint.Silent)))
-
--- nothing is said
-abbrev pub isSilent : Hint → Bool
-isSilent Hint.Silent = true
-isSilent (Hint.DebugFirst p r) = false
-isSilent (Hint.NoColon p) = false
-isSilent (Hint.Equals p) = false
-isSilent (Hint.Misplaced p) = false
-isSilent (Hint.PlusFirst p) = false
-isSilent (Hint.Field a b) = false
-isSilent (Hint.TupleIndex a b) = false
-isSilent (Hint.Comma p) = false
-
 -- "13 field access; 14 tuple index"; a nameless field is passed and nothing is said (K13, K14)
 abbrev pub fieldHint : Place → TextPlace → TextPlace → Hint
 fieldHint (Place.Next n) from to = Hint.Silent
@@ -119,14 +92,21 @@ fieldRead t f m from at n =
     let field = argumentRead t f m (dot .at) n in
     pick (dot .ate) (fieldAfter m from field (consumed t (field .at) (code "}"))) (passedTo at n Hint.Silent)
 
--- what is said and passed: only when two characters remain (R8.2)
+-- WHAT IS SAID AND PASSED, by the character where a closing brace is missing and the one after it; only when two characters remain (R8.2)
 unfoldable pub recoverRead : List ℕ → Frame → Mode → TextPlace → Bool → TextPlace → ℕ → Recovery
 recoverRead t f m from identifier at n =
     let past = pastAt t at in
-    let hint = signHint t at past in
+    let here = isAt t at in
+    let then = isAt t past in
+    let stays = passedTo at n Hint.Silent in
     pick (ltb (past .0) (length t))
-    (pick (isAt t at (code "?")) (afterQuestion t at past n)
-    (pick (isSilent hint)
-    (pick identifier (fieldRead t f m from at n) (passedTo at n Hint.Silent))
-    (passedTo past n hint)))
-    (passedTo at n Hint.Silent)
+    (pick (both (here (code "?")) (then (code "}"))) (passedTo past n (Hint.NoColon at))
+    (pick (both (here (code "?")) (then (code ":"))) (debugFirst at n (wordRead t (consumed t past (code ":") .at)))
+    (pick (here (code "?")) (passedTo past n Hint.Silent)
+    (pick (isAlign t at) (passedTo past n (Hint.Misplaced at))
+    (pick (here (code ",")) (passedTo past n (Hint.Comma at))
+    (pick (here (code "+")) (passedTo past n (Hint.PlusFirst at))
+    (pick (both (here (code "=")) (then (code "}"))) (passedTo past n (Hint.Equals at))
+    (pick (both identifier (here (code "."))) (fieldRead t f m from at n)
+    stays))))))))
+    stays

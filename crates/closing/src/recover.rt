@@ -13,13 +13,13 @@ use placeholder::Sign;
 use placeholder::Spec;
 use scan::Count;
 use scan::Flaw;
-use utf8::Seen;
 ghost use mathlib.Core.Path.{_≡_};
 ghost use Prim.Native.Nat.{_<_};
 ghost use Rattle.frame.specs.Bounds.{Small};
 ghost use Rattle.utf8.specs.Choice.{both};
 ghost use Rattle.closing.specs.Defaults.{noFill, noAlign, noSign, noHex, noSpan, isFalse, isNamed, noMarks, noCounts, isDefault, isIdentifier};
-ghost use Rattle.closing.specs.Recovery.{because, gapAt, cleanFlaws, passedTo, textTaken, afterQuestion, signHint, isSilent, fieldHint, fieldRead, recoverRead};
+ghost use Rattle.closing.specs.Recovery.{because, gapAt, cleanFlaws, passedTo, textTaken, fieldHint, fieldRead, recoverRead};
+ghost use Rattle.closing.specs.Recovering.{afterQuestion, signHint, isSilent};
 
 // A closing brace is missing before the character at a place, or at the end; then the character that says why: the fill if it is `}`, else the
 // opening brace.

@@ -1,4 +1,4 @@
--- A call: what is decided before the text is read, the lists that reading leaves, and the answer's list. Rests on Parts and answer's AnswerLaws.
+-- A call: what is decided before the text is read, the lists that reading leaves, and the answer's list. Rests on Parts and answer's DecisionLaws.
 use Prim.Native.Nat.{ℕ, _≤_, _<_}
 use mathlib.Core.Path.{_≡_, ap, _∙_}
 use mathlib.Core.List.{List}

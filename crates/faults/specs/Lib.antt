@@ -1,1 +1,2 @@
+-- A walk over what a step found wrong.
 pub mod Slots

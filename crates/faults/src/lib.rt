@@ -225,7 +225,7 @@ pub fn first_wrong(step: Step, slot: usize) -> usize
     k
 }
 
-// Document 01's number of a fault's kind; 0 where nothing is wrong.
+// The rules' number of a fault's kind; 0 where nothing is wrong.
 fn kind_of(fault: Fault) -> u8
     ensures { λ r. ⌜ r ≡ kindOf fault ⌝ }
 {

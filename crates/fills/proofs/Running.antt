@@ -1,5 +1,5 @@
 -- A whole text written step by step: some pieces and records are written, the steps left give the rest. Then what the two runs of `fill` leave.
--- Rests on StepsWritten, Filling, Noting and Overlays, and on reading's WalkLaws, FaultLaws and ListLaws.
+-- Rests on StepsWritten, Filling, Noting and Overlays, and on `laws`' WalkLaws, FaultLaws and ListLaws.
 use Prim.Native.Nat.{ℕ, suc, _+_, _-_, _*_, _≤_, _<_}
 use mathlib.Core.Path.{_≡_, refl, sym, ap, _∙_}
 use mathlib.Core.Bool.{Bool, true, false}

@@ -1,5 +1,5 @@
 -- What the quick lane tells to be wrong: the word `_` in three places, and a closing brace that is missing. It is what the step found wrong.
--- Rests on Lane, writing's Noting, quick's Tellings and reading's FaultLaws.
+-- Rests on Lane, writing's Noting, quick's Tellings and `laws`' FaultLaws.
 use Prim.Native.Nat.{ℕ, _+_, _*_, _≤_}
 use mathlib.Core.Path.{_≡_, refl, sym, ap, _∙_}
 use mathlib.Core.Bool.{Bool, true, false}
@@ -12,7 +12,8 @@ use Rattle.frame.specs.Spans.{spanBetween}
 use Rattle.frame.specs.declared.Frame.{Frame}
 use Rattle.frame.specs.declared.Span.{Span}
 use Rattle.frame.specs.declared.TextPlace.{TextPlace}
-use Rattle.closing.specs.Recovery.{because, gapAt, isSilent}
+use Rattle.closing.specs.Recovery.{because, gapAt}
+use Rattle.closing.specs.Recovering.{isSilent}
 use Rattle.closing.specs.declared.recover.Gap.{Gap}
 use Rattle.closing.specs.declared.recover.Hint.{Hint}
 use Rattle.laws.specs.FaultLaws.{wrong-++}

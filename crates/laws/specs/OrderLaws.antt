@@ -26,7 +26,8 @@ use Rattle.scan.specs.declared.Number.{Number}
 use Rattle.placeholder.specs.Places.{rawPlace, wordPlace, placeAfter, placeRead}
 use Rattle.placeholder.specs.Specs.{diagnosticType, specRead}
 use Rattle.placeholder.specs.Arguments.{argumentRead}
-use Rattle.closing.specs.Recovery.{textTaken, afterQuestion, fieldRead, recoverRead}
+use Rattle.closing.specs.Recovery.{textTaken, fieldRead, recoverRead}
+use Rattle.closing.specs.Recovering.{afterQuestion, recovering, recover-table}
 use Rattle.closing.specs.Wholes.{missingRead, placeholderRead}
 use Rattle.closing.specs.OnwardLaws.{argument-on, recover-on}
 use Rattle.frame.specs.declared.Mode.{Mode}
@@ -177,15 +178,16 @@ module _ (t : List ℕ) (f : Frame) where
     -- that of what is passed where a closing brace is missing
     order-recover : (from : TextPlace) (i : Bool) (at : TextPlace) (n : ℕ) →
         InOrder (at .0) (charsIn t (recoverRead t f m from i at n .text)) (recoverRead t f m from i at n .at .0)
-    unfolding recoverRead
+    unfolding recovering
     order-recover from i at n =
         let P : Recovery → Type 0 = λ r. at .0 ≤ r .at .0 → InOrder (at .0) (charsIn t (r .text)) (r .at .0) in
-        pick-elim P _
+        rw (recover-table t f m from i at n)
+        (pick-elim P _
         (λ _.
         pick-elim P _ (λ _. order-question t at _ n)
         (λ _. pick-elim P _ (λ _. pick-elim P _ (λ _. order-field from at n) (λ _. order-none t at)) (λ _. order-none t _)))
         (λ _. order-none t at)
-        (recover-on t f m from i at n)
+        (rw (recover-table t f m from i at n) at (recover-on t f m from i at n)))
 
     -- that of a placeholder
     order-placeholder : (brace at : TextPlace) (n : ℕ) →

@@ -28,7 +28,8 @@ use Rattle.placeholder.specs.Types.{hexType, debugType, wordType, typeRead}
 use Rattle.placeholder.specs.Format.{formatRead}
 use Rattle.placeholder.specs.Specs.{diagnosticType, afterColon, specRead}
 use Rattle.placeholder.specs.Arguments.{argumentRead}
-use Rattle.closing.specs.Recovery.{cleanFlaws, passedTo, afterQuestion, signHint, isSilent, fieldHint, fieldRead, recoverRead}
+use Rattle.closing.specs.Recovery.{cleanFlaws, passedTo, fieldHint, fieldRead, recoverRead}
+use Rattle.closing.specs.Recovering.{afterQuestion, signHint, isSilent, recovering, recover-table}
 use Rattle.closing.specs.Defaults.{isIdentifier}
 use Rattle.closing.specs.Wholes.{missingRead, placeholderRead}
 use Rattle.placeholder.specs.declared.ArgumentFlaws.{ArgumentFlaws}
@@ -329,13 +330,14 @@ module _ (t : List ℕ) where
     -- what is passed where a closing brace is missing
     recover-paid : (from : TextPlace) (i : Bool) (at : TextPlace) (n : ℕ) →
         at .0 + heldOn (recoverRead t f m from i at n) ≤ recoverRead t f m from i at n .at .0
-    unfolding recoverRead
+    unfolding recovering
     recover-paid from i at n =
         let past = pastAt t at in
         let hint = signHint t at past in
         let P : Recovery → Type 0 = λ r. at .0 + heldOn r ≤ r .at .0 in
         let none : P (passedTo at n Hint.Silent) = omega (arith, passed-held at n Hint.Silent, said-none) in
-        pick-elim P _
+        rw (recover-table t f m from i at n)
+        (pick-elim P _
         (λ l.
         let two = ltb-true (past .0) (length t) l in
         let some = past-some t at (omega (arith, past-on t at)) in
@@ -343,7 +345,7 @@ module _ (t : List ℕ) where
         (λ _.
         pick-elim P _ (λ _. pick-elim P _ (λ _. field-paid from at n) (λ _. none))
         (λ _. omega (arith, passed-held past n hint, said-most hint))))
-        (λ _. none)
+        (λ _. none))
 
 -- what is held at the end of a placeholder
 abbrev pub heldAt : Closing → ℕ

@@ -14,7 +14,7 @@ use Rattle.frame.specs.declared.TextPlace.{TextPlace}
 use Rattle.scan.specs.Characters.{consumed}
 use Rattle.scan.specs.ScanLaws.{consumed-on, consumed-some, text-on}
 use Rattle.scan.specs.declared.Flaw.{Flaw}
-use Rattle.closing.specs.Recovery.{isSilent}
+use Rattle.closing.specs.Recovering.{isSilent}
 use Rattle.placeholder.specs.declared.ArgumentFlaws.{ArgumentFlaws}
 use Rattle.frame.specs.declared.Mode.{Mode}
 use Rattle.closing.specs.declared.recover.Gap.{Gap}
@@ -23,7 +23,6 @@ use Rattle.closing.specs.declared.whole.Closing.{Closing}
 use Rattle.reading.specs.Steps.{afterOpen, afterClose, stepAt, onward, reading}
 use Rattle.laws.specs.StepLaws.{step-later, step-on, Run, reading-run}
 use Rattle.reading.specs.Faults.{flawFault, gapFault, hintFault, argumentSlots, missingSlots, closingSlots, stepSlots, wrong, faultsOf}
-use Rattle.laws.specs.LineLaws.{by-test}
 use Rattle.reading.specs.Lists.{gather, piecesOf, pieces, faults, errors}
 use Rattle.laws.specs.ListLaws.{gather-more, gather-one, errors-length}
 use Rattle.laws.specs.PaidLaws.{held, said, heldIn, heldOn, heldAt, placeholder-paid}

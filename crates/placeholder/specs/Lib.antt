@@ -1,3 +1,4 @@
+-- Definitions of what stands between the braces, and bounds of it.
 pub mod Places
 pub mod Parts
 pub mod Types

@@ -1,7 +1,7 @@
 -- Where a closing brace is missing, the byte that stands there tells what `closing` says of it and where reading goes on, unless it is a `?` or a `.`.
 -- Rests on Bytes and on `closing`'s definition of recovery.
 use Prim.Native.Nat.{ℕ, _+_, _≤_, _<_}
-use mathlib.Core.Path.{_≡_, refl}
+use mathlib.Core.Path.{_≡_, refl, _∙_}
 use mathlib.Core.Bool.{Bool, true, false}
 use mathlib.Core.List.{List}
 use native.Mathlib.Omega.{arith}
@@ -17,7 +17,8 @@ use Rattle.frame.specs.declared.TextPlace.{TextPlace}
 use Rattle.scan.specs.Characters.{isAt, pastAt}
 use Rattle.scan.specs.ScanLaws.{past-on, past-some}
 use Rattle.frame.specs.declared.Mode.{Mode}
-use Rattle.closing.specs.Recovery.{passedTo, signHint, isSilent, fieldRead, recoverRead}
+use Rattle.closing.specs.Recovery.{passedTo, fieldRead, recoverRead}
+use Rattle.closing.specs.Recovering.{signHint, isSilent, recovering, recover-table}
 use Rattle.closing.specs.declared.recover.Hint.{Hint}
 use Rattle.closing.specs.declared.recover.Recovery.{Recovery}
 use Rattle.quick.specs.declared.SignHint.{SignHint}
@@ -115,11 +116,13 @@ module _ (t : List ℕ) (at : ℕ) where
 
     -- WHAT IS TOLD OF A MISSING BRACE IS WHAT IS SAID
     pub recover-told : recoverRead t f m from i (place at) n ≡ passedTo (place (pastHint (hintOf t at) at)) n (placedHint (hintOf t at) (place at))
-    unfolding recoverRead hintOf pick
-    recover-told = go (leb (length t) (at + 1)) refl (ltb (getD t at 0) 0x80) refl
+    unfolding recovering hintOf pick
+    recover-told =
+        recover-table t f m from i (place at) n ∙
+        go (leb (length t) (at + 1)) refl (ltb (getD t at 0) 0x80) refl
       where
         go : (x : Bool) → leb (length t) (at + 1) ≡ x → (y : Bool) → ltb (getD t at 0) 0x80 ≡ y →
-            recoverRead t f m from i (place at) n ≡
+            recovering t f m from i (place at) n ≡
             passedTo (place (pastHint (pick x SignHint.Silent (signAt t at)) at)) n (placedHint (pick x SignHint.Silent (signAt t at)) (place at))
         go true e y d = rw (last (leb-true (length t) (at + 1) e))
         go false e true d =

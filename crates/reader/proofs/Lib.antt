@@ -1,3 +1,4 @@
+-- Laws that the proofs of this crate share.
 pub mod Again
 pub mod Answer
 pub mod Bits

@@ -1,1 +1,2 @@
+-- Records added to a lent list.
 pub mod Lent

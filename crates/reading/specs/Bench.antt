@@ -1,8 +1,7 @@
 -- The template bench of document 01, B1 to B15, further cases, notices and refusals: tables with every field of every record, one statement
 -- that the checker computes. Format, no style, no snippet, where nothing else is said.
-use Prim.Native.Nat.{ℕ}
 use mathlib.Core.Path.{_≡_, refl}
-use mathlib.Core.Bool.{Bool, true, false}
+use mathlib.Core.Bool.{true, false}
 use mathlib.Core.List.{List, [], _∷_}
 use Rattle.utf8.specs.Choice.{pick, within}
 use Rattle.utf8.specs.Utf8.{low, high, sequenceOf, charOf, sequenceAt, decode, peekAt, valid, validPrefix}
@@ -29,7 +28,7 @@ use Rattle.placeholder.specs.declared.Align.{Align}
 use Rattle.placeholder.specs.declared.Fill.{Fill}
 use Rattle.placeholder.specs.declared.Place.{Place}
 use Rattle.closing.specs.Defaults.{noMarks, noCounts, isDefault, isIdentifier}
-use Rattle.closing.specs.Recovery.{gapAt, afterQuestion, signHint, fieldRead, recoverRead}
+use Rattle.closing.specs.Recovery.{gapAt, fieldRead, recoverRead}
 use Rattle.closing.specs.Wholes.{missingRead, placeholderRead}
 use Rattle.reading.specs.Steps.{afterOpen, afterClose, stepAt, stepsFrom, reading}
 use Rattle.reading.specs.Faults.{argumentSlots, missingSlots, closingSlots, stepSlots, wrong, faultsOf}
@@ -209,9 +208,10 @@ refused =
     asked (answerOf (0xFF ∷ []) [] (ask 0 Hashes.Plain true false) rooms256) (answered 2 0 none-counted) ∷
     asked (answerOf [] [] (ask 0 (Hashes.Raw 256) false false) rooms256) (answered 2 0 none-counted) ∷
     asked (answerOf (0x61 ∷ 0xFF ∷ []) [] (ask 0 Hashes.Plain false true) rooms256) (answered 4 1 none-counted) ∷
-    asked (answerOf (bytesOf "a") [] (ask 0 Hashes.Plain false true) rooms256) (answered 5 0 none-counted) ∷
+    asked (answerOf (bytesOf "a") [] (ask 0 Hashes.Plain false true) (rooms 0 0 0 0)) (answered 5 0 none-counted) ∷
     asked (answerOf (bytesOf "{a.b}") [] (ask 0 Hashes.Plain false false) (rooms 0 1 0 0)) (answered 6 0 (counts 1 2 0 0)) ∷
     asked (answerOf (bytesOf "{a.b}") [] (ask 0 Hashes.Plain false false) (rooms 1 1 0 0)) (answered 7 0 (counts 1 2 0 0)) ∷
+    asked (answerOf (bytesOf "{}}") (bytesOf "r\"{}}\"") (ask 0 (Hashes.Raw 0) true false) (rooms 1 0 0 0)) (answered 7 0 (counts 1 1 1 0)) ∷
     asked (answerOf (bytesOf "{}") (bytesOf "r\"{}\"") (ask 0 (Hashes.Raw 0) true false) (rooms 1 0 0 0)) (answered 8 0 (counts 1 0 1 1)) ∷
     asked (answerOf (bytesOf "{}") (bytesOf "r\"{}\"") (ask 0 (Hashes.Raw 0) true false) (rooms 1 0 1 0)) (answered 9 0 (counts 1 0 1 1)) ∷
     -- the first notice with room for one line: by the same count
@@ -230,7 +230,7 @@ unfolding
     toSnippet startOf spanBetween isAt pastAt consumed spacesPast isPlain textEnd ends.endOf ends.spanAcross wordEnd isUnderscore wordRead
     isDigit decimal noted digitsAt numberFrom numberRead isEmpty numberCount nameCount countRead isR rawPlace wordPlace placeRead isAlign
     fillRead alignRead signRead plainWidth widthRead afterDot precisionRead hexType isHexOrHash debugType wordType typeRead formatRead
-    diagnosticType specRead argumentRead noMarks noCounts isDefault isIdentifier gapAt afterQuestion signHint fieldRead recoverRead
+    diagnosticType specRead argumentRead noMarks noCounts isDefault isIdentifier gapAt fieldRead recoverRead
     missingRead placeholderRead afterOpen afterClose stepAt stepsFrom reading argumentSlots missingSlots closingSlots stepSlots wrong
     faultsOf recordOf before charsIn newlines cut lineAfter endedLines lineStart gather pieces frontOnly backOnly reversed listed records
     faults errors places literalChars toTheEnd sameSpan isLast linesIn lines countsOf isLong isBroken endsInNewline lacksNewline modeOf

@@ -1,4 +1,4 @@
--- The four lists of a reading, its stopping place, and how many records each list has.
+-- The four lists of a reading, and how many records each list has.
 use Prim.Native.Nat.{ℕ}
 use mathlib.Core.Bool.{Bool, true, false}
 use mathlib.Core.List.{List, [], _∷_, _++_}
@@ -6,7 +6,7 @@ use lib.Dec.{eqb}
 use lib.ListN.{length}
 use Rattle.utf8.specs.Choice.{pick, both}
 use Rattle.utf8.specs.Chars.{Ch}
-use Rattle.frame.specs.Places.{place, snippet, spanOf}
+use Rattle.frame.specs.Places.{snippet, spanOf}
 use Rattle.frame.specs.declared.TextPlace.{TextPlace}
 use Rattle.frame.specs.declared.TextRange.{TextRange}
 use Rattle.frame.specs.declared.Span.{Span}
@@ -130,21 +130,6 @@ linesIn f cs ended =
 
 unfoldable pub lines : List ℕ → Frame → Mode → List Span
 lines t f m = pick (f .literal) (linesIn f (literalChars t (reading t f m)) (toTheEnd (reading t f m))) []
-
--- THE STOPPING PLACE: the end, or a lone `}`
-abbrev pub stopOf : List ℕ → TextPlace → Step → TextPlace
-stopOf t later Step.End = place (length t)
-stopOf t later (Step.Stop p) = p
-stopOf t later (Step.Literal r) = later
-stopOf t later (Step.Placeholder p) = later
-
-unfoldable pub stopIn : List ℕ → List Step → TextPlace
-stopIn t [] = place (length t)
-stopIn t (x ∷ xs) = stopOf t (stopIn t xs) x
-
--- (R1.7)
-unfoldable pub stoppingPlace : List ℕ → Frame → Mode → TextPlace
-stoppingPlace t f m = stopIn t (reading t f m)
 
 -- COUNTS: each is the length of its list (R1.6)
 unfoldable pub countsOf : List ℕ → Frame → Mode → Counts

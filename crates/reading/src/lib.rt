@@ -26,7 +26,7 @@ pub enum Onward {
     To(State),
 }
 
-// What a reading found wrong: document 01's fifteen kinds, with the places that their records are made from.
+// What a reading found wrong: the rules' fifteen kinds, with the places that their records are made from.
 pub enum Fault {
     // Nothing is wrong.
     Clean,
@@ -73,7 +73,7 @@ pub enum MaybeRange {
 }
 
 pub struct ErrorRecord {
-    // Document 01's number of the kind.
+    // The rules' number of the kind.
     pub kind: u8,
     pub span: Span,
     pub second: MaybeSpan,
@@ -111,7 +111,7 @@ pub struct Rooms {
     pub lines: usize,
 }
 
-// Document 01's number (0: done), the place (of 4, else 0), and the records needed (of 0 and 6 to 9, else none).
+// The rules' number (0: done), the place (of 4, else 0), and the records needed (of 0 and 6 to 9, else none).
 pub struct Answer {
     pub number: u8,
     pub place: usize,

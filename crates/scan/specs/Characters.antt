@@ -1,5 +1,5 @@
 -- A character at a place of the text, and what is passed over it: one ASCII character, any character, whitespace, literal text.
--- Rests on `utf8`'s decoding, runs and White_Space.
+-- Rests on `utf8`'s decoding and runs, and `letters`' White_Space.
 use Prim.Native.Nat.{ℕ, _+_}
 use Prim.Native.Char.{code}
 use mathlib.Core.Bool.{Bool, true, false, not}

@@ -1,1 +1,2 @@
+-- What the functions that write spans come to.
 pub mod Fills

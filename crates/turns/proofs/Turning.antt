@@ -1,4 +1,4 @@
--- What one step does to the pieces and the faults that are left at a cursor. Rests on Turns, TurnLaws and reading's WalkLaws.
+-- What one step does to the pieces and the faults that are left at a cursor. Rests on Turns, TurnLaws and `laws`' WalkLaws.
 use Prim.Native.Nat.{ℕ, _+_, _-_, _≤_, _<_}
 use mathlib.Core.Path.{_≡_, refl}
 use mathlib.Core.Bool.{false}

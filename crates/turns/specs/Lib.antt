@@ -1,2 +1,3 @@
+-- A run over the steps, a piece or a fault at a time, and its laws.
 pub mod Turns
 pub mod TurnLaws

@@ -1,5 +1,5 @@
 -- Error records noted one after the other: each fault's part, the room they take, and what the list holds when all are noted.
--- Rests on StepsWritten, Overlays, words' LaidLaws and reading's FaultLaws.
+-- Rests on StepsWritten, Overlays, words' LaidLaws and `laws`' FaultLaws.
 use Prim.Native.Nat.{ℕ, suc, _+_, _-_, _*_, _≤_}
 use mathlib.Core.Path.{_≡_, refl, sym, ap, _∙_}
 use mathlib.Core.Bool.{Bool, true, false}

@@ -1,5 +1,5 @@
 -- The walk over what a step found wrong: the records of those before a slot are noted, and the others are left. Rests on Noting, faults' Slots and
--- reading's FaultLaws.
+-- `laws`' FaultLaws.
 use Prim.Native.Nat.{ℕ, _+_, _≤_, _<_}
 use mathlib.Core.Path.{_≡_, refl, sym, _∙_}
 use mathlib.Core.Bool.{false}

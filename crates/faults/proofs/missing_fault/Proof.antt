@@ -1,7 +1,7 @@
 -- The slot with a number: the first two, then an argument's five, then what is said, and past the eighth there is none.
-use mathlib.Core.Path.{sym, ap, _∙_}
+use mathlib.Core.Path.{sym, _∙_}
 use native.Mathlib.Omega.{arith}
-use Rattle.reading.specs.Faults.{flawFault, argumentSlots, missingSlots}
+use Rattle.reading.specs.Faults.{argumentSlots, missingSlots}
 use Rattle.laws.specs.FaultLaws.{missing-field, missing-past}
 use Rattle.faults.proofs.missing_fault.Statement.{statement}
 use Rattle.faults.proofs.missing_fault.Tie as tie

@@ -39,6 +39,7 @@ use Rattle.placeholder.specs.declared.format.TypeRead.{TypeRead}
 use Rattle.placeholder.specs.declared.format.SpecRead.{SpecRead}
 use Rattle.closing.specs.Defaults.{noFill, noSpan, noMarks, noCounts, isDefault, isIdentifier}
 use Rattle.closing.specs.Recovery.{because, gapAt, passedTo, textTaken, fieldAfter, fieldRead, recoverRead}
+use Rattle.closing.specs.Recovering.{recovering, recover-table}
 use Rattle.closing.specs.Wholes.{missingRead, placeholderRead}
 use Rattle.closing.specs.declared.recover.Hint.{Hint}
 use Rattle.closing.specs.declared.recover.Recovery.{Recovery}
@@ -261,8 +262,10 @@ module _ (t : List ℕ) (f g : Frame) (m : Mode) where
       ap (λ a. pick (dot .ate) (fieldAfter m from a (consumed t (a .at) 0x7D)) (passedTo at n Hint.Silent)) (argument-any t f g m (dot .at) n)
 
   recover-any : (from : TextPlace) (i : Bool) (at : TextPlace) (n : ℕ) → recoverRead t f m from i at n ≡ recoverRead t g m from i at n
-  unfolding recoverRead
-  recover-any from i at n = rw (field-any from at n)
+  unfolding recovering
+  recover-any from i at n =
+      let e : recovering t f m from i at n ≡ recovering t g m from i at n = rw (field-any from at n) in
+      recover-table t f m from i at n ∙ (e ∙ sym (recover-table t g m from i at n))
 
   -- A WHOLE PLACEHOLDER, of an argument without spans
   abbrev whole : TextPlace → ArgumentRead → Closing → TextPlace → ℕ → PlaceholderRead

@@ -2,7 +2,7 @@
 -- any other.
 use borrow.Author.Needs.{needs}
 use Rattle.utf8.specs.Choice.{pick}
-use Rattle.closing.specs.Recovery.{afterQuestion}
+use Rattle.closing.specs.Recovering.{afterQuestion}
 use Rattle.closing.proofs.recover.after_question.Statement.{statement}
 use Rattle.closing.proofs.recover.after_question.Tie as tie
 

@@ -4,6 +4,7 @@ use borrow.Author.Needs.{needs}
 use borrow.Author.Tests.{lt-ltb, le-ltb, not-true, not-false}
 use Rattle.utf8.specs.Choice.{pick}
 use Rattle.closing.specs.Recovery.{recoverRead}
+use Rattle.closing.specs.Recovering.{recovering, recover-table}
 use Rattle.closing.proofs.recover.recover.Statement.{statement}
 use Rattle.closing.proofs.recover.recover.Tie as tie
 
@@ -14,10 +15,10 @@ passed-to-requires : tie.Need-passed-to-requires
 passed-to-requires c κs = search needs
 
 returns : tie.Need-returns
-unfolding pick recoverRead
+unfolding pick recovering
 returns c =
     let at-past = c .before .before .before in
-    rw (← at-past .past .ensures, le-ltb _ _ (c .before .if1 .taken), ← c .passed-to .ensures)
+    rw (recover-table, ← at-past .past .ensures, le-ltb _ _ (c .before .if1 .taken), ← c .passed-to .ensures)
 
 peek-is-requires : tie.Need-peek-is-requires
 peek-is-requires c κs = search needs
@@ -26,10 +27,11 @@ after-question-requires : tie.Need-after-question-requires
 after-question-requires c κs = search needs
 
 returns-2 : tie.Need-returns-2
-unfolding pick recoverRead
+unfolding pick recovering
 returns-2 c =
     let at-if1 = c .before .before .before in
     rw (
+      recover-table,
       ← at-if1 .before .before .past .ensures,
       lt-ltb _ _ (at-if1 .if1 .left),
       ← c .before .before .peek-is .ensures,
@@ -47,12 +49,13 @@ passed-to-requires-2 : tie.Need-passed-to-requires-2
 passed-to-requires-2 c κs = search needs
 
 returns-3 : tie.Need-returns-3
-unfolding pick recoverRead
+unfolding pick recovering
 returns-3 c =
     let at-silent = c .before .before in
     let at-peek = at-silent .before .before .before in
     let at-past = at-peek .before .before .before in
     rw (
+      recover-table,
       ← at-past .past .ensures,
       lt-ltb _ _ (at-peek .before .if1 .left),
       ← at-peek .peek-is .ensures,
@@ -67,12 +70,13 @@ read-field-requires : tie.Need-read-field-requires
 read-field-requires c κs = search needs
 
 returns-4 : tie.Need-returns-4
-unfolding pick recoverRead
+unfolding pick recovering
 returns-4 c =
     let at-silent = c .before .before .before in
     let at-peek = at-silent .before .before .before in
     let at-past = at-peek .before .before .before in
     rw (
+      recover-table,
       ← at-past .past .ensures,
       lt-ltb _ _ (at-peek .before .if1 .left),
       ← at-peek .peek-is .ensures,
@@ -88,12 +92,13 @@ passed-to-requires-3 : tie.Need-passed-to-requires-3
 passed-to-requires-3 c κs = search needs
 
 returns-5 : tie.Need-returns-5
-unfolding pick recoverRead
+unfolding pick recovering
 returns-5 c =
     let at-silent = c .before .before .before in
     let at-peek = at-silent .before .before .before in
     let at-past = at-peek .before .before .before in
     rw (
+      recover-table,
       ← at-past .past .ensures,
       lt-ltb _ _ (at-peek .before .if1 .left),
       ← at-peek .peek-is .ensures,

@@ -1,7 +1,7 @@
 -- `closing::recover::sign_hint` meets its contract: it is the definition, sign by sign.
 use borrow.Author.Needs.{needs}
 use Rattle.utf8.specs.Choice.{pick}
-use Rattle.closing.specs.Recovery.{signHint}
+use Rattle.closing.specs.Recovering.{signHint}
 use Rattle.closing.proofs.recover.sign_hint.Statement.{statement}
 use Rattle.closing.proofs.recover.sign_hint.Tie as tie
 

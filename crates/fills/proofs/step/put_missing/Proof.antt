@@ -3,7 +3,8 @@ use borrow.Author.Needs.{needs}
 use mathlib.Core.Path.{ap, sym, _∙_}
 use denote.Ref.{now}
 use Rattle.frame.specs.Places.{place}
-use Rattle.closing.specs.Recovery.{gapAt, isSilent}
+use Rattle.closing.specs.Recovery.{gapAt}
+use Rattle.closing.specs.Recovering.{isSilent}
 use Rattle.reading.specs.Faults.{gapFault, hintFault}
 use Rattle.fills.proofs.Wrongs.{missing-first, missing-silent, missing-next, missing-both}
 use Rattle.fills.proofs.step.put_missing.Statement.{statement}
