@@ -1,12 +1,14 @@
 //! What the programs share: cases and their stream, the Rust's answer to a case, its listing, its
-//! agreement with the grammar, and the makers of cases.
+//! agreement with the grammar, joined texts, and the makers of cases.
 
 pub mod agreement;
 pub mod answer;
 pub mod case;
 pub mod error_record;
 pub mod exit;
+pub mod joins;
 pub mod listing;
 pub mod make;
+pub mod pairs;
 pub mod ranges;
 pub mod reading;

@@ -1,0 +1,1 @@
+// Joined texts: definitions and theorems, in specs/. No code.
