@@ -22,6 +22,9 @@ static void print_place(const nitarehpu_piece_t *piece) {
     case 1:
         printf("argument %u", (unsigned)piece->place_value);
         break;
+    case 3:
+        printf("a number over range");
+        break;
     default:
         print_bytes(piece->place_value, piece->place_end);
     }
@@ -37,6 +40,12 @@ static void print_count(const char *what, const nitarehpu_amount_t *count) {
     case 4:
         printf(", %s from ", what);
         print_bytes(count->value, count->name_end);
+        break;
+    case 5:
+        printf(", %s over range", what);
+        break;
+    case 6:
+        printf(", %s from an argument over range", what);
         break;
     default:
         printf(", %s from argument %u", what, (unsigned)count->value);

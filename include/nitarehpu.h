@@ -45,10 +45,13 @@ enum { NITAREHPU_PIECE_NUMBERS = 40, NITAREHPU_ERROR_NUMBERS = 16, NITAREHPU_SPA
 
 /* A span of the snippet that may be absent: present is 0 or 1, and without it start and end are 0. */
 
+/* A number that is written in the text is at most 65,535. One above that is over range: it is an error of kind 7, its kind of place or amount says so, and no
+ * value stands for it. A text without errors has none. */
+
 /* A width or a precision. */
 typedef struct nitarehpu_amount {
-    uint32_t kind;             /* 0 implied, 1 fixed, 2 by argument (number$), 3 by star, 4 by name (name$) */
-    uint32_t value;            /* 1: the number; 2, 3: the argument's number; 4: the name's first byte in the text */
+    uint32_t kind;             /* 0 implied, 1 fixed, 2 by argument (number$), 3 by star, 4 by name (name$), 5 fixed and over range, 6 by argument and over range */
+    uint32_t value;            /* 1: the number; 2, 3: the argument's number; 4: the name's first byte in the text; 5, 6: 0, which means nothing */
     uint32_t name_end;         /* 4: where the name's bytes end */
     uint32_t name_span_start;  /* 4: the name's span */
     uint32_t name_span_end;
@@ -62,8 +65,8 @@ typedef struct nitarehpu_piece {
     uint32_t kind;             /* 0 a literal, 1 an argument */
     uint32_t start;            /* its bytes in the text: of a literal its view, of an argument from its opening brace */
     uint32_t end;              /* to where reading stood afterwards */
-    uint32_t place;            /* 0 the next argument, 1 by number, 2 by name */
-    uint32_t place_value;      /* 0, 1: the argument's number; 2: the name's first byte in the text */
+    uint32_t place;            /* 0 the next argument, 1 by number, 2 by name, 3 by a number that is over range */
+    uint32_t place_value;      /* 0, 1: the argument's number; 2: the name's first byte in the text; 3: 0, which means nothing */
     uint32_t place_end;        /* 2: where the name's bytes end */
     uint32_t place_span_start;
     uint32_t place_span_end;

@@ -40,6 +40,10 @@ fn count(words: &[u32]) -> String {
         1 => format!("fixed {}", words[1]),
         2 => format!("arg {}", words[1]),
         3 => format!("star {}", words[1]),
+        5 | 6 => {
+            assert!(words[1..5].iter().all(|&word| word == 0), "what a count over range does not tell is 0");
+            if words[0] == 5 { "fixed over" } else { "arg over" }.to_owned()
+        }
         _ => format!("name {} {} {}", words[1], words[2], span(&words[3..])),
     }
 }
@@ -53,6 +57,10 @@ fn piece(out: &mut impl Write, words: &[u32]) -> io::Result<()> {
     match words[3] {
         0 => write!(out, "next {}", words[4])?,
         1 => write!(out, "at {}", words[4])?,
+        3 => {
+            assert!(words[4..6].iter().all(|&word| word == 0), "what a place over range does not tell is 0");
+            write!(out, "over")?;
+        }
         _ => write!(out, "name {} {}", words[4], words[5])?,
     }
     let fill = if words[8] == 1 { format!("{} {}", words[9], span(&words[10..])) } else { "-".to_owned() };

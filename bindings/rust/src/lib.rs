@@ -13,7 +13,7 @@ mod records;
 mod room;
 
 pub use records::{
-    Alignment, Argument, Count, DebugHex, FormatSpec, ParseError, Piece, Position, Sign,
+    Alignment, Argument, Count, DebugHex, FormatSpec, Numeral, ParseError, Piece, Position, Sign,
 };
 
 use std::ops::Range;

@@ -23,8 +23,15 @@ pub struct Argument {
 pub enum Position {
     /// The next argument, and its number.
     ArgumentImplicitlyIs(usize),
-    ArgumentIs(usize),
+    ArgumentIs(Numeral),
     ArgumentNamed(String),
+}
+
+/// A number that is written: itself, or over range where it is above 65,535. The original keeps the remainder of such a number, so that `{65536}` is argument 0.
+#[derive(Clone, Copy, Debug, PartialEq, Eq)]
+pub enum Numeral {
+    Within(u16),
+    Over,
 }
 
 #[derive(Clone, Debug, PartialEq, Eq)]
@@ -66,9 +73,9 @@ pub enum DebugHex {
 
 #[derive(Clone, Debug, PartialEq, Eq)]
 pub enum Count {
-    CountIs(u16),
+    CountIs(Numeral),
     CountIsName(String, Range<usize>),
-    CountIsParam(usize),
+    CountIsParam(Numeral),
     CountIsStar(usize),
     CountImplied,
 }
@@ -100,6 +107,11 @@ fn part(text: &str, words: &[u32]) -> String {
     text[range(words)].to_owned()
 }
 
+/// A written number that is not over range.
+fn within(word: u32) -> Numeral {
+    Numeral::Within(u16::try_from(word).expect("a number within the range has 16 bits"))
+}
+
 /// The piece that 40 numbers tell.
 pub fn piece(text: &str, words: &[u32]) -> Piece {
     if words[0] == 0 {
@@ -116,7 +128,8 @@ pub fn piece(text: &str, words: &[u32]) -> Piece {
 fn position(text: &str, words: &[u32]) -> Position {
     match words[0] {
         0 => Position::ArgumentImplicitlyIs(number(words[1])),
-        1 => Position::ArgumentIs(number(words[1])),
+        1 => Position::ArgumentIs(within(words[1])),
+        3 => Position::ArgumentIs(Numeral::Over),
         _ => Position::ArgumentNamed(part(text, &words[1..])),
     }
 }
@@ -142,9 +155,11 @@ fn spec(text: &str, words: &[u32]) -> FormatSpec {
 fn count(text: &str, words: &[u32]) -> Count {
     match words[0] {
         0 => Count::CountImplied,
-        1 => Count::CountIs(u16::try_from(words[1]).expect("a fixed count has 16 bits")),
-        2 => Count::CountIsParam(number(words[1])),
+        1 => Count::CountIs(within(words[1])),
+        2 => Count::CountIsParam(within(words[1])),
         3 => Count::CountIsStar(number(words[1])),
+        5 => Count::CountIs(Numeral::Over),
+        6 => Count::CountIsParam(Numeral::Over),
         _ => Count::CountIsName(part(text, &words[1..]), range(&words[3..])),
     }
 }

@@ -1,6 +1,6 @@
 //! The API on texts whose outcome is known: the rows of the bench that show most, the lookup line, and the refusals.
 
-use nitarehpu::{Alignment, Argument, Count, ParseMode, Parsed, Piece, Position, Refused, parse};
+use nitarehpu::{Alignment, Argument, Count, Numeral, ParseMode, Parsed, Piece, Position, Refused, parse};
 
 fn read(text: &str) -> Parsed {
     parse(text, None, None, false, ParseMode::Format).expect("the text is read")
@@ -40,7 +40,7 @@ fn every_part_of_a_spec_is_told() {
     let spec = &argument.format;
     assert_eq!(argument.position, Position::ArgumentNamed("value".to_owned()));
     assert_eq!((spec.fill, spec.align, spec.alternate, spec.zero_pad), (Some('ø'), Alignment::AlignCenter, true, true));
-    assert_eq!((&spec.width, &spec.precision, &spec.ty[..]), (&Count::CountIs(10), &Count::CountIs(3), "?"));
+    assert_eq!((&spec.width, &spec.precision, &spec.ty[..]), (&Count::CountIs(Numeral::Within(10)), &Count::CountIs(Numeral::Within(3)), "?"));
     assert!(parsed.errors.is_empty());
 }
 
@@ -49,7 +49,7 @@ fn counts_by_name_and_by_argument_are_told() {
     let parsed = read("{:wide$.1$}");
     let [argument] = arguments(&parsed)[..] else { panic!("one argument") };
     assert_eq!(argument.format.width, Count::CountIsName("wide".to_owned(), 3..7));
-    assert_eq!(argument.format.precision, Count::CountIsParam(1));
+    assert_eq!(argument.format.precision, Count::CountIsParam(Numeral::Within(1)));
 }
 
 #[test]
@@ -59,10 +59,24 @@ fn errors_of_the_front_come_first() {
 }
 
 #[test]
-fn a_number_too_large_keeps_its_remainder() {
+fn a_number_too_large_is_over_range() {
     let parsed = read("{65536}");
-    assert_eq!(arguments(&parsed)[0].position, Position::ArgumentIs(0));
+    assert_eq!(arguments(&parsed)[0].position, Position::ArgumentIs(Numeral::Over));
     assert_eq!((parsed.errors[0].kind, parsed.errors[0].span.clone()), (7, 2..8));
+    let clean = read("{65535:065535.65535$}");
+    assert_eq!(arguments(&clean)[0].position, Position::ArgumentIs(Numeral::Within(65_535)));
+    assert!(clean.errors.is_empty());
+}
+
+#[test]
+fn counts_over_range_keep_their_case_and_take_their_dollar() {
+    let parsed = read("{:065536$.99999}{:65536.099999$}");
+    let [first, second] = arguments(&parsed)[..] else { panic!("two arguments") };
+    assert!(first.format.zero_pad && !second.format.zero_pad);
+    assert_eq!((&first.format.width, &first.format.precision), (&Count::CountIsParam(Numeral::Over), &Count::CountIs(Numeral::Over)));
+    assert_eq!((&second.format.width, &second.format.precision), (&Count::CountIs(Numeral::Over), &Count::CountIsParam(Numeral::Over)));
+    let kinds: Vec<_> = parsed.errors.iter().map(|error| error.kind).collect();
+    assert_eq!(kinds, [7; 4]);
 }
 
 #[test]

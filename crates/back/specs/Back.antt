@@ -10,6 +10,7 @@ use Rattle.frame.specs.Places.{place, snippet, rangeOf, spanOf}
 use Rattle.frame.specs.declared.Span.{Span}
 use Rattle.frame.specs.declared.TextRange.{TextRange}
 use Rattle.scan.specs.declared.Count.{Count}
+use Rattle.scan.specs.declared.Numeral.{Numeral}
 use Rattle.placeholder.specs.declared.Align.{Align}
 use Rattle.placeholder.specs.declared.Argument.{Argument}
 use Rattle.placeholder.specs.declared.Fill.{Fill}
@@ -59,15 +60,20 @@ fillAt w k = pick (eqb (word w k) 1) (Fill.Present (word w (k + 1)) (spanAt w (k
 -- a place of the kind that a number says
 abbrev pub placeAt : ℕ → List ℕ → ℕ → Place
 placeAt tag w k =
-    pick (eqb tag 0) (Place.Next (word w k)) (pick (eqb tag 1) (Place.At (word w k)) (Place.Named (rangeAt w k (k + 1))))
+    pick (eqb tag 0) (Place.Next (word w k))
+    (pick (eqb tag 1) (Place.At (Numeral.Within (word w k)))
+    (pick (eqb tag 3) (Place.At Numeral.Over)
+    (Place.Named (rangeAt w k (k + 1)))))
 
 abbrev pub countAt : List ℕ → ℕ → Count
 countAt w k =
-    pick (eqb (word w k) 1) (Count.Fixed (word w (k + 1)))
-    (pick (eqb (word w k) 2) (Count.ByArgument (word w (k + 1)))
+    pick (eqb (word w k) 1) (Count.Fixed (Numeral.Within (word w (k + 1))))
+    (pick (eqb (word w k) 2) (Count.ByArgument (Numeral.Within (word w (k + 1))))
     (pick (eqb (word w k) 3) (Count.ByStar (word w (k + 1)))
     (pick (eqb (word w k) 4) (Count.ByName (rangeAt w (k + 1) (k + 2)) (spanAt w (k + 3) (k + 4)))
-    Count.Implied)))
+    (pick (eqb (word w k) 5) (Count.Fixed Numeral.Over)
+    (pick (eqb (word w k) 6) (Count.ByArgument Numeral.Over)
+    Count.Implied)))))
 
 unfoldable pub specFrom : List ℕ → Spec
 specFrom w =

@@ -9,6 +9,7 @@ use Rattle.utf8.specs.Choice.{pick}
 use Rattle.frame.specs.declared.Span.{Span}
 use Rattle.frame.specs.declared.TextRange.{TextRange}
 use Rattle.scan.specs.declared.Count.{Count}
+use Rattle.scan.specs.declared.Numeral.{Numeral}
 use Rattle.placeholder.specs.declared.Align.{Align}
 use Rattle.placeholder.specs.declared.Argument.{Argument}
 use Rattle.placeholder.specs.declared.Fill.{Fill}
@@ -101,7 +102,8 @@ module _ (w : List ℕ) (k : ℕ) where
   place-back : (p : Place) (s : Span) → PlaceFits p → fourAt w k ≡ placeWords p s → placeAt (placeTag p) w k ≡ p
   unfolding pick
   place-back (Place.Next n) s h e = rw (first w k e, low-back h)
-  place-back (Place.At n) s h e = rw (first w k e)
+  place-back (Place.At (Numeral.Within n)) s h e = rw (first w k e)
+  place-back (Place.At Numeral.Over) s h e = refl
   place-back (Place.Named r) s h e = ap Place.Named (range-back w k (k + 1) r h (first w k e) (second w k e))
 
   -- the span of a place
@@ -114,8 +116,10 @@ module _ (w : List ℕ) (k : ℕ) where
   count-back : (c : Count) → CountFits c → fourAt w k ≡ countData c → word w (k + 4) ≡ nameSpanEnd c → countAt w k ≡ c
   unfolding pick
   count-back Count.Implied h e l = rw (first w k e)
-  count-back (Count.Fixed n) h e l = rw (first w k e, second w k e)
-  count-back (Count.ByArgument n) h e l = rw (first w k e, second w k e)
+  count-back (Count.Fixed (Numeral.Within n)) h e l = rw (first w k e, second w k e)
+  count-back (Count.Fixed Numeral.Over) h e l = rw (first w k e)
+  count-back (Count.ByArgument (Numeral.Within n)) h e l = rw (first w k e, second w k e)
+  count-back (Count.ByArgument Numeral.Over) h e l = rw (first w k e)
   count-back (Count.ByStar n) h e l = rw (first w k e, second w k e, low-back h)
   count-back (Count.ByName r s) h e l =
       rw (

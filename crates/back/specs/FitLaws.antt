@@ -8,8 +8,10 @@ use native.Mathlib.Omega.{arith}
 use borrow.Author.Tests.{ltb-true}
 use lib.ListN.{length}
 use Rattle.utf8.specs.ChoiceLaws.{pick-elim}
+use Rattle.utf8.specs.Chars.{runEnd}
 use Rattle.utf8.specs.CharLaws.{peeked}
 use Rattle.utf8.specs.declared.Seen.{Seen}
+use Rattle.frame.specs.Places.{place, rangeOf}
 use Rattle.frame.specs.Spans.{toSnippet, startOf, spanBetween}
 use Rattle.frame.specs.Bounds.{Small}
 use Rattle.frame.specs.declared.TextPlace.{TextPlace}
@@ -18,13 +20,14 @@ use Rattle.frame.specs.declared.SnippetPlace.{SnippetPlace}
 use Rattle.frame.specs.declared.Frame.{Frame}
 use Rattle.scan.specs.Characters.{pastAt, consumed, spacesPast}
 use Rattle.scan.specs.Ends.{endSeen, endOf, spanAcross}
-use Rattle.scan.specs.Words.{wordRead, isDigit, numberFrom, numberRead}
+use Rattle.scan.specs.Words.{wordRead, isDigit, decimal, numeral, tooLarge, digitsAt, numberFrom, numberRead}
 use Rattle.scan.specs.Counts.{numberCount, nameCount, countAfter, countRead}
 use Rattle.scan.specs.ScanLaws.{seen-elim, run-in, consumed-in, past-in, spaces-in, text-in, word-in, number-in, count-in}
 use Rattle.scan.specs.declared.CountRead.{CountRead}
 use Rattle.scan.specs.declared.Flaw.{Flaw}
 use Rattle.scan.specs.declared.Number.{Number}
 use Rattle.scan.specs.declared.NumberRead.{NumberRead}
+use Rattle.scan.specs.declared.Numeral.{Numeral}
 use Rattle.placeholder.specs.Places.{placed, rawPlace, wordPlace, placeAfter, placeRead}
 use Rattle.placeholder.specs.Parts.{fillSeen, fillRead, alignRead, signRead, plainWidth, widthRead, afterDot, precisionRead}
 use Rattle.placeholder.specs.Types.{hexType, debugType, wordType, typeRead}
@@ -114,8 +117,11 @@ module _ (t : List ℕ) (at : TextPlace) where
   number-flaw : In t at → FlawFits t (numberRead t at .flaw)
   unfolding numberRead numberFrom
   number-flaw h =
-      pick-elim (λ (r : NumberRead). FlawFits t (r .flaw)) _ (λ _. tt)
-      (λ _. pick-elim (FlawFits t) _ (λ _. (h, run-in isDigit t (at .0) h)) (λ _. tt))
+      pick-elim (λ (r : NumberRead). FlawFits t (r .flaw)) _ (λ _. tt) (λ _. go (numeral (decimal 0 (digitsAt t at))))
+    where
+      go : (n : Numeral) → FlawFits t (tooLarge n (rangeOf at (place (runEnd isDigit t (at .0)))))
+      go (Numeral.Within n) = tt
+      go Numeral.Over = (h, run-in isDigit t (at .0) h)
 
 -- a place that is found
 abbrev FoundFits : Found → Type 0

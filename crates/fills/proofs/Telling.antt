@@ -13,6 +13,7 @@ use Rattle.frame.specs.Places.{place, rangeOf}
 use Rattle.frame.specs.Spans.{spanBetween}
 use Rattle.frame.specs.declared.Frame.{Frame}
 use Rattle.scan.specs.declared.Count.{Count}
+use Rattle.scan.specs.declared.Numeral.{Numeral}
 use Rattle.placeholder.specs.Arguments.{resolved}
 use Rattle.placeholder.specs.Specs.{noSpec}
 use Rattle.placeholder.specs.declared.MaybeSpan.{MaybeSpan}
@@ -44,7 +45,7 @@ module _ (at : ℕ) (p : PartTold) where
   found-none e = rw (eq-eqb (p .tag) 0 e)
 
   module _ (some : p .tag ≡ 0 → ⊥) where
-    found-number : p .tag ≡ 1 → foundOf at p ≡ Found.Number (p .value)
+    found-number : p .tag ≡ 1 → foundOf at p ≡ Found.Number (Numeral.Within (p .value))
     unfolding foundOf pick
     found-number e = rw (ne-eqb (p .tag) 0 some, eq-eqb (p .tag) 1 e)
 
@@ -57,7 +58,7 @@ module _ (at : ℕ) (p : PartTold) where
     unfolding placeOf
     place-next e = ap (λ (o : Found). resolved o n .place) (found-none e)
 
-    pub place-number : (p .tag ≡ 0 → ⊥) → p .tag ≡ 1 → placeOf at p n ≡ Place.At (p .value)
+    pub place-number : (p .tag ≡ 0 → ⊥) → p .tag ≡ 1 → placeOf at p n ≡ Place.At (Numeral.Within (p .value))
     unfolding placeOf
     place-number some e = ap (λ (o : Found). resolved o n .place) (found-number some e)
 
@@ -124,11 +125,11 @@ module _ (n : ℕ) (p : PartTold) where
   count-implied e = rw (eq-eqb (p .tag) 0 e)
 
   module _ (some : p .tag ≡ 0 → ⊥) where
-    count-one : p .tag ≡ 1 → countOf n p ≡ Count.Fixed (p .value)
+    count-one : p .tag ≡ 1 → countOf n p ≡ Count.Fixed (Numeral.Within (p .value))
     unfolding countOf pick
     count-one e = rw (ne-eqb (p .tag) 0 some, eq-eqb (p .tag) 1 e)
 
-    count-two : p .tag ≡ 2 → countOf n p ≡ Count.ByArgument (p .value)
+    count-two : p .tag ≡ 2 → countOf n p ≡ Count.ByArgument (Numeral.Within (p .value))
     unfolding countOf pick
     count-two e = rw (ne-eqb (p .tag) 0 some, ne-eqb (p .tag) 1 (λ d. omega arith), eq-eqb (p .tag) 2 e)
 

@@ -16,6 +16,7 @@ use Rattle.frame.specs.Places.{snippet, spanOf}
 use Rattle.frame.specs.declared.Span.{Span}
 use Rattle.frame.specs.declared.TextRange.{TextRange}
 use Rattle.scan.specs.declared.Count.{Count}
+use Rattle.scan.specs.declared.Numeral.{Numeral}
 use Rattle.placeholder.specs.declared.Align.{Align}
 use Rattle.placeholder.specs.declared.Fill.{Fill}
 use Rattle.placeholder.specs.declared.Hex.{Hex}
@@ -181,7 +182,7 @@ unfolding piecesOf argumentAt formatAt size wide encode pick
 starred = refl
 
 by-dollar : piecesOf 1 0 0 (held next [] (format unaligned false (byArgument 0x30 []) undotted untyped) ∷ []) ≡
-    argument (Place.Next 0) (span 2 2) (spec Fill.Absent Align.Unknown false (Count.ByArgument 0) (at 3 5) Count.Implied MaybeSpan.Absent Hex.Absent (bytes 4 4) MaybeSpan.Absent) (bytes 0 5)
+    argument (Place.Next 0) (span 2 2) (spec Fill.Absent Align.Unknown false (Count.ByArgument (Numeral.Within 0)) (at 3 5) Count.Implied MaybeSpan.Absent Hex.Absent (bytes 4 4) MaybeSpan.Absent) (bytes 0 5)
     ∷ []
 unfolding piecesOf argumentAt formatAt size wide encode pick
 by-dollar = refl
@@ -190,7 +191,7 @@ by-dollar = refl
 all-parts : piecesOf 3 0 0 (run 0xE9 [] ∷ held (word 0x61 []) (0x20 ∷ []) (format (filled 0xE9 left) true (fixed 0x37 []) (dot (byName 0x62 [])) (hexDebug lower)) ∷ []) ≡
     Piece.Literal (bytes 0 2)
     ∷ argument (Place.Named (bytes 3 4)) (span 6 8)
-    (spec (Fill.Present 0xE9 (span 9 11)) Align.Left true (Count.Fixed 7) (at 13 14) (Count.ByName (bytes 12 13) (span 15 16)) (at 14 17) Hex.Lower (bytes 15 16) MaybeSpan.Absent)
+    (spec (Fill.Present 0xE9 (span 9 11)) Align.Left true (Count.Fixed (Numeral.Within 7)) (at 13 14) (Count.ByName (bytes 12 13) (span 15 16)) (at 14 17) Hex.Lower (bytes 15 16) MaybeSpan.Absent)
     (bytes 2 17)
     ∷ []
 unfolding piecesOf argumentAt formatAt size wide encode pick
@@ -203,7 +204,7 @@ unfolding piecesOf argumentAt formatAt size wide encode pick
 typed-text = refl
 
 modified : piecesOf 1 0 0 (held (number 0x30 []) [] (colon (modifier 0x62 []) (0x20 ∷ [])) ∷ []) ≡
-    argument (Place.At 0) (span 2 3) (bareSpec (bytes 3 4) (at 4 5)) (bytes 0 6) ∷ []
+    argument (Place.At (Numeral.Within 0)) (span 2 3) (bareSpec (bytes 3 4) (at 4 5)) (bytes 0 6) ∷ []
 unfolding piecesOf argumentAt size wide encode pick
 modified = refl
 

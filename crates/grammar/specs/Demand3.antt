@@ -1,5 +1,5 @@
 -- DEMAND 3 IS MET: for every text that is UTF-8, every frame (style, snippet and mark) and every mode, by the lists that the public call's
--- contract cites. The page is Demand; the work is in Device/Readings, Numbers, Covering and AnyFrame.
+-- contract cites. The page is Demand; the work is in Device/Readings, Numbers, Within, Covering and AnyFrame.
 use mathlib.Core.Path.{_≡_, sym, _∙_}
 use mathlib.Core.List.{List, []}
 use Prim.Native.Nat.{ℕ}
@@ -14,9 +14,11 @@ use Rattle.reading.specs.declared.ErrorRecord.{ErrorRecord}
 use Rattle.laws.specs.BrokenLaws.{well-whole}
 use Rattle.grammar.specs.Numbering.{numbers, UpFrom}
 use Rattle.grammar.specs.Demand.{Demand}
+use Rattle.grammar.specs.Ranges.{NoneOver}
 use Rattle.grammar.specs.Spanless as S
 use Rattle.grammar.specs.Device.Readings.{has-reading, no-error, its-pieces, only-one}
 use Rattle.grammar.specs.Device.Numbers.{numbered}
+use Rattle.grammar.specs.Device.Within.{none-over}
 use Rattle.grammar.specs.Device.Covering.{covered}
 use Rattle.grammar.specs.Device.AnyFrame.{pieces-any, kinds-any, quotes-any}
 
@@ -46,6 +48,12 @@ pub no-freedom : {mode : Mode} {quote : ℕ} {text : List ℕ} {ps ps₂ : List 
 no-freedom d d₂ e =
     let r = d .exactly .0 e in
     (d₂ .exactly .1 r, d .the-pieces (r .0) (r .1) ∙ sym (d₂ .the-pieces (r .0) (r .1)))
+
+-- NO ERROR MEANS NO OVER-RANGE CASE: neither as a place nor as a width nor as a precision of any piece.
+pub all-within : {mode : Mode} {quote : ℕ} {text : List ℕ} {ps : List Piece} {es : List ErrorRecord} → Demand mode quote text ps es → es ≡ [] → NoneOver ps
+all-within {quote = quote} d e =
+    let r = d .exactly .0 e in
+    rw (d .the-pieces (r .0) (r .1)) (none-over quote 0 0 (r .0))
 
 -- Style, snippet and mark change neither the pieces nor the errors' kinds nor what they quote: spans alone.
 pub same-pieces : (text : List ℕ) (frame other : Frame) (mode : Mode) → S.pieces (pieces text frame mode) ≡ S.pieces (pieces text other mode)

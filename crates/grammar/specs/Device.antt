@@ -20,6 +20,7 @@ pub mod Whole
 pub mod Bytes
 pub mod Readings
 pub mod Numbers
+pub mod Within
 pub mod Alone
 pub mod Covering
 pub mod AnyFrame

@@ -9,6 +9,7 @@ use Rattle.frame.specs.Places.{place, rangeOf, snippet, spanOf}
 use Rattle.frame.specs.declared.TextRange.{TextRange}
 use Rattle.frame.specs.declared.Span.{Span}
 use Rattle.scan.specs.declared.Count.{Count}
+use Rattle.scan.specs.declared.Numeral.{Numeral}
 use Rattle.placeholder.specs.declared.Place.{Place}
 use Rattle.placeholder.specs.declared.Fill.{Fill}
 use Rattle.placeholder.specs.declared.Align.{Align}
@@ -92,7 +93,7 @@ past n (placeholder a) = pastInside n a
 -- a place
 abbrev pub placeOf : ℕ → ℕ → Position → Place
 placeOf p n next = Place.Next n
-placeOf p n (number d ds) = Place.At (value 0 (d ∷ ds))
+placeOf p n (number d ds) = Place.At (Numeral.Within (value 0 (d ∷ ds)))
 placeOf p n (word c r) = Place.Named (bytesAt p (c ∷ r))
 
 -- an align
@@ -167,8 +168,8 @@ module _ (q : ℕ) where
   -- a count by name has its word's span
   abbrev pub countOf : ℕ → Width → Count
   countOf p implied = Count.Implied
-  countOf p (fixed d ds) = Count.Fixed (value 0 (d ∷ ds))
-  countOf p (byArgument d ds) = Count.ByArgument (value 0 (d ∷ ds))
+  countOf p (fixed d ds) = Count.Fixed (Numeral.Within (value 0 (d ∷ ds)))
+  countOf p (byArgument d ds) = Count.ByArgument (Numeral.Within (value 0 (d ∷ ds)))
   countOf p (byName c r) = Count.ByName (bytesAt p (c ∷ r)) (spanned p (p + size (c ∷ r)))
 
   -- a width that stands has the span of all that is written, its `$` included

@@ -20,9 +20,10 @@ use Rattle.frame.specs.declared.Mode.{Mode}
 use Rattle.frame.specs.declared.Style.{Style}
 use Rattle.scan.specs.Characters.{isAt, pastAt, consumed, spacesPast, isPlain, textEnd}
 use Rattle.scan.specs.Ends as ends
-use Rattle.scan.specs.Words.{wordEnd, isUnderscore, wordRead, isDigit, decimal, noted, digitsAt, numberFrom, numberRead}
+use Rattle.scan.specs.Words.{wordEnd, isUnderscore, wordRead, isDigit, decimal, numeral, digitsAt, numberFrom, numberRead}
 use Rattle.scan.specs.Counts.{isEmpty, numberCount, nameCount, countRead}
 use Rattle.scan.specs.declared.Count.{Count}
+use Rattle.scan.specs.declared.Numeral.{Numeral}
 use Rattle.placeholder.specs.Places.{isR, rawPlace, wordPlace, placeRead}
 use Rattle.placeholder.specs.Parts.{isAlign, fillRead, alignRead, signRead, plainWidth, widthRead, afterDot, precisionRead}
 use Rattle.placeholder.specs.Types.{hexType, isHexOrHash, debugType, wordType, typeRead}
@@ -123,8 +124,8 @@ table =
       first = bytesOf "{:}";
       second = bytesOf "<{0:b}";
       ps = arg 0 3 (Place.Next 0) (span 4 4) (empty 2) ∷ [];
-      qs = lit 0 1 ∷ arg 1 6 (Place.At 0) (span 5 6) (typed 4 5 (some 7 8)) ∷ [];
-      rs = arg 0 3 (Place.Next 0) (span 4 4) (empty 2) ∷ lit 3 4 ∷ arg 4 9 (Place.At 0) (span 8 9) (typed 7 8 (some 10 11)) ∷ [];
+      qs = lit 0 1 ∷ arg 1 6 (Place.At (Numeral.Within 0)) (span 5 6) (typed 4 5 (some 7 8)) ∷ [];
+      rs = arg 0 3 (Place.Next 0) (span 4 4) (empty 2) ∷ lit 3 4 ∷ arg 4 9 (Place.At (Numeral.Within 0)) (span 8 9) (typed 7 8 (some 10 11)) ∷ [];
     } ∷
     record {
       mode = Mode.Diagnostic;
@@ -165,7 +166,7 @@ unfolding
     isDoubled numberOfBoth meet
     bytesOf pick within member start continue space isSpace isStart isContinue low high sequenceOf charOf sequenceAt decode peekAt charsAt
     charsFrom takeWhile bytes runEnd frameOf body isLiteral endOf toSnippet startOf spanBetween isAt pastAt consumed spacesPast isPlain textEnd
-    ends.endOf ends.spanAcross wordEnd isUnderscore wordRead isDigit decimal noted digitsAt numberFrom numberRead isEmpty numberCount nameCount
+    ends.endOf ends.spanAcross wordEnd isUnderscore wordRead isDigit decimal numeral digitsAt numberFrom numberRead isEmpty numberCount nameCount
     countRead isR rawPlace wordPlace placeRead isAlign fillRead alignRead signRead plainWidth widthRead afterDot precisionRead hexType
     isHexOrHash debugType wordType typeRead formatRead diagnosticType specRead argumentRead noMarks noCounts isDefault isIdentifier gapAt
     fieldRead recoverRead missingRead placeholderRead afterOpen afterClose stepAt stepsFrom reading argumentSlots

@@ -17,7 +17,7 @@ use Rattle.frame.specs.declared.TextPlace.{TextPlace}
 use Rattle.frame.specs.declared.TextRange.{TextRange}
 use Rattle.frame.specs.declared.Frame.{Frame}
 use Rattle.scan.specs.Characters.{isAt, pastAt, consumed, spacesPast}
-use Rattle.scan.specs.Words.{wordEnd, isUnderscore, wordRead, isDigit, decimal, noted, digitsAt, numberFrom, numberRead}
+use Rattle.scan.specs.Words.{wordEnd, isUnderscore, wordRead, isDigit, decimal, numeral, tooLarge, digitsAt, numberFrom, numberRead}
 use Rattle.scan.specs.ScanLaws.{seen-elim, run-on, consumed-on, consumed-some, past-on, past-some, spaces-on, text-on, word-on, count-on}
 use Rattle.scan.specs.declared.Flaw.{Flaw}
 use Rattle.scan.specs.declared.Number.{Number}
@@ -113,7 +113,7 @@ module _ (t : List ℕ) (at : TextPlace) where
       pick-elim (λ (r : NumberRead). at .0 + held (r .flaw) ≤ r .digits .end .0) _ (λ _. omega (arith, held-clean))
       (λ n.
       let some = eqb-false (at .0) end n in
-      omega (arith, held-most (pick (noted (decimal 0 (digitsAt t at)) .over) (Flaw.TooLarge (rangeOf at (place end))) Flaw.Clean)))
+      omega (arith, held-most (tooLarge (numeral (decimal 0 (digitsAt t at))) (rangeOf at (place end)))))
 
   -- where a character is passed that stands there, a fault is paid for
   ate-paid : (c : ℕ) {k : ℕ} → k ≤ 1 → consumed t at c .ate ≡ true → at .0 + k ≤ consumed t at c .at .0

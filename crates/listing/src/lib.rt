@@ -15,6 +15,7 @@ use reading::ErrorRecord;
 use reading::MaybeRange;
 use reading::Piece;
 use scan::Count;
+use scan::Numeral;
 
 // One byte.
 pub fn byte(out: &mut [u8], used: usize, b: u8) -> usize {
@@ -84,16 +85,29 @@ fn maybe_range(out: &mut [u8], used: usize, r: MaybeRange) -> usize {
     }
 }
 
+// A number, or `over` where it is over range.
+fn numeral(out: &mut [u8], used: usize, n: Numeral) -> usize {
+    match n {
+        Numeral::Within(i) => number(out, used, i as usize),
+        Numeral::Over => words(out, used, b"over"),
+    }
+}
+
+// A place that is a number: `at` and the number, or `over` alone.
+fn numbered(out: &mut [u8], used: usize, n: Numeral) -> usize {
+    match n {
+        Numeral::Within(i) => labelled(out, used, b"at ", i as usize),
+        Numeral::Over => words(out, used, b"over"),
+    }
+}
+
 fn place(out: &mut [u8], used: usize, p: Place) -> usize {
     match p {
         Place::Next(i) => {
             let n = words(out, used, b"next ");
             number(out, n, i)
         }
-        Place::At(i) => {
-            let n = words(out, used, b"at ");
-            number(out, n, i as usize)
-        }
+        Place::At(i) => numbered(out, used, i),
         Place::Named(r) => {
             let n = words(out, used, b"name ");
             range(out, n, r)
@@ -106,7 +120,7 @@ fn count(out: &mut [u8], used: usize, c: Count) -> usize {
         Count::Implied => words(out, used, b"implied"),
         Count::Fixed(i) => {
             let n = words(out, used, b"fixed ");
-            number(out, n, i as usize)
+            numeral(out, n, i)
         }
         Count::ByName(r, s) => {
             let n = words(out, used, b"name ");
@@ -116,7 +130,7 @@ fn count(out: &mut [u8], used: usize, c: Count) -> usize {
         }
         Count::ByArgument(i) => {
             let n = words(out, used, b"arg ");
-            number(out, n, i as usize)
+            numeral(out, n, i)
         }
         Count::ByStar(i) => {
             let n = words(out, used, b"star ");

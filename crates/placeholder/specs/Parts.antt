@@ -16,6 +16,7 @@ use Rattle.scan.specs.Characters.{isAt, consumed}
 use Rattle.scan.specs.Ends.{spanAcross}
 use Rattle.scan.specs.Counts.{countRead}
 use Rattle.scan.specs.declared.Flaw.{Flaw}
+use Rattle.scan.specs.declared.Numeral.{Numeral}
 use Rattle.scan.specs.declared.Count.{Count}
 use Rattle.scan.specs.declared.CountRead.{CountRead}
 use Rattle.placeholder.specs.declared.Align.{Align}
@@ -91,7 +92,7 @@ abbrev pub zeroArgument : Span → TextPlace → WidthRead
 zeroArgument span at =
     record {
       zero = false;
-      width = Count.ByArgument 0;
+      width = Count.ByArgument (Numeral.Within 0);
       span = MaybeSpan.Present span;
       at = at;
       flaw = Flaw.Clean;

@@ -10,6 +10,7 @@ use frame::TextPlace;
 use frame::TextRange;
 use scan::Count;
 use scan::Flaw;
+use scan::Numeral;
 use utf8::Seen;
 ghost use mathlib.Core.Path.{_≡_};
 ghost use Prim.Native.Nat.{_<_};
@@ -220,7 +221,7 @@ fn read_width(text: &[u8], frame: Frame, at: TextPlace) -> WidthRead
             let span = scan::span_across(text, frame, at, past);
             return WidthRead {
                 zero: false,
-                width: Count::ByArgument(0),
+                width: Count::ByArgument(Numeral::Within(0)),
                 span: MaybeSpan::Present(span),
                 at: end,
                 flaw: Flaw::Clean,

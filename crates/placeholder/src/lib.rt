@@ -3,16 +3,17 @@ use frame::Span;
 use frame::TextRange;
 use scan::Count;
 use scan::Flaw;
+use scan::Numeral;
 
 pub mod position; // position.rt: the place: a number, a word, or nothing
 pub mod format; // format.rt: the Format spec, a part at a time
 pub mod modes; // modes.rt: the spec of each mode
 pub mod between; // between.rt: all between the braces
 
-// Where an argument is found: the next one, the one with a number, the one with a name.
+// Where an argument is found: the next one, the one with a number, which may be over range, the one with a name.
 pub enum Place {
     Next(usize),
-    At(u16),
+    At(Numeral),
     Named(TextRange),
 }
 

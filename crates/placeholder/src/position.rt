@@ -3,13 +3,14 @@ use frame::TextPlace;
 use frame::TextRange;
 use scan::Flaw;
 use scan::Number;
+use scan::Numeral;
 ghost use mathlib.Core.Path.{_≡_};
 ghost use Rattle.placeholder.specs.Places.{isR, rawPlace, wordPlace, placeRead};
 
 // A place as it is written. Nothing: the place is counted once its spec is read.
 pub enum Found {
     Nothing,
-    Number(u16),
+    Number(Numeral),
     Word(TextRange),
 }
 

@@ -3,7 +3,6 @@ use Prim.Native.Nat.{ℕ, zero, suc, _+_, _-_, _*_, _≤_, _<_}
 use mathlib.Core.Path.{_≡_, refl, sym, _∙_, ap}
 use mathlib.Core.Bool.{Bool, true, false, true≢false}
 use mathlib.Core.List.{List}
-use native.Mathlib.Nat.{mod-eq-of-lt}
 use native.Mathlib.Omega.{arith}
 use borrow.Author.Tests.{ne-eqb, ltb-true, ltb-false, le-ltb}
 use lib.Dec.{ltb}
@@ -12,10 +11,11 @@ use Rattle.utf8.specs.Choice.{pick}
 use Rattle.utf8.specs.Chars.{takeWhile, runEnd}
 use Rattle.utf8.specs.CharLaws.{run-more}
 use Rattle.frame.specs.Places.{place, rangeOf}
-use Rattle.scan.specs.Words.{isDigit, decimal, noted, digitsAt, numberFrom, numberRead}
+use Rattle.scan.specs.Words.{isDigit, decimal, numeral, digitsAt, numberFrom, numberRead}
 use Rattle.scan.specs.declared.Flaw.{Flaw}
 use Rattle.scan.specs.declared.Number.{Number}
 use Rattle.scan.specs.declared.NumberRead.{NumberRead}
+use Rattle.scan.specs.declared.Numeral.{Numeral}
 use Rattle.quick.specs.PartsTold.{Room, part, NumberTold}
 use Rattle.quick.proofs.Bytes.{byte-in, digit-range, digit-seen, no-digit}
 
@@ -26,7 +26,7 @@ ten (suc k) = 10 * ten k
 
 -- the number read at a place, where its digits before place i spell n
 unfoldable pub rest : List ℕ → ℕ → ℕ → ℕ → NumberRead
-rest t n at i = numberFrom (noted (decimal n (digitsAt t (place i)))) (place at) (place (runEnd isDigit t i))
+rest t n at i = numberFrom (numeral (decimal n (digitsAt t (place i)))) (place at) (place (runEnd isDigit t i))
 
 -- with no digit before, it is the number read
 rest-all : (t : List ℕ) (at : ℕ) → rest t 0 at at ≡ numberRead t (place at)
@@ -41,14 +41,13 @@ module _ (t : List ℕ) (n at i : ℕ) where
 
   -- no digit more: n is the number read
   rest-stop : isDigit (getD t i 0) ≡ false → n ≤ 65535 → at < i →
-      rest t n at i ≡ record { number = Number.Given n; digits = rangeOf (place at) (place i); flaw = Flaw.Clean }
-  unfolding rest decimal noted numberFrom pick
+      rest t n at i ≡ record { number = Number.Given (Numeral.Within n); digits = rangeOf (place at) (place i); flaw = Flaw.Clean }
+  unfolding rest decimal numeral numberFrom pick
   rest-stop z l h =
       rw (
         no-digit t i z .0,
         no-digit t i z .1,
         ne-eqb at i (omega arith),
-        mod-eq-of-lt {n = n} {m = 65536} (omega arith),
         le-ltb 65535 n l,
       )
 

@@ -18,6 +18,7 @@ use Rattle.scan.specs.Counts.{isEmpty, counted, numberCount, nameCount, countRe
 use Rattle.scan.specs.ScanLaws.{word-on, word-in}
 use Rattle.scan.specs.declared.Count.{Count}
 use Rattle.scan.specs.declared.CountRead.{CountRead}
+use Rattle.scan.specs.declared.Numeral.{Numeral}
 use Rattle.placeholder.specs.Places.{isR, wordPlace, placeRead}
 use Rattle.placeholder.specs.Parts.{isImplied, fillRead, afterDot, precisionRead}
 use Rattle.placeholder.specs.Types.{hexType, isHexOrHash, debugType, wordType, typeRead}
@@ -53,7 +54,7 @@ unfolding countOf pick
 implied n p = go (eqb (p .tag) 0) (eqb (p .tag) 1) (eqb (p .tag) 2)
   where
     go : (a b c : Bool) →
-        isImplied (pick a Count.Implied (pick b (Count.Fixed (p .value)) (pick c (Count.ByArgument (p .value)) (Count.ByStar n)))) ≡ a
+        isImplied (pick a Count.Implied (pick b (Count.Fixed (Numeral.Within (p .value))) (pick c (Count.ByArgument (Numeral.Within (p .value))) (Count.ByStar n)))) ≡ a
     go true b c = refl
     go false true c = refl
     go false false true = refl

@@ -17,6 +17,7 @@ use Rattle.frame.specs.declared.TextPlace.{TextPlace}
 use Rattle.scan.specs.Characters.{pastAt, spacesPast, consumed}
 use Rattle.scan.specs.ScanLaws.{run-in}
 use Rattle.scan.specs.declared.Flaw.{Flaw}
+use Rattle.scan.specs.declared.Numeral.{Numeral}
 use Rattle.placeholder.specs.Arguments.{resolved, joined, argumentRead}
 use Rattle.placeholder.specs.Places.{placed}
 use Rattle.placeholder.specs.Specs.{noSpec, specRead}
@@ -82,8 +83,8 @@ unfolding foundOf pick
 same-next a b n p = go (eqb (p .tag) 0) (eqb (p .tag) 1)
   where
     go : (x y : Bool) →
-        resolved (pick x Found.Nothing (pick y (Found.Number (p .value)) (Found.Word (rangeOf (place a) (place (p .end)))))) n .next ≡
-        resolved (pick x Found.Nothing (pick y (Found.Number (p .value)) (Found.Word (rangeOf (place b) (place (p .end)))))) n .next
+        resolved (pick x Found.Nothing (pick y (Found.Number (Numeral.Within (p .value))) (Found.Word (rangeOf (place a) (place (p .end)))))) n .next ≡
+        resolved (pick x Found.Nothing (pick y (Found.Number (Numeral.Within (p .value))) (Found.Word (rangeOf (place b) (place (p .end)))))) n .next
     go true y = refl
     go false true = refl
     go false false = refl

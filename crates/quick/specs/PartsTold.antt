@@ -14,6 +14,7 @@ use Rattle.scan.specs.Words.{numberRead}
 use Rattle.scan.specs.Counts.{countRead}
 use Rattle.scan.specs.declared.Flaw.{Flaw}
 use Rattle.scan.specs.declared.Number.{Number}
+use Rattle.scan.specs.declared.Numeral.{Numeral}
 use Rattle.placeholder.specs.Places.{placed, placeRead}
 use Rattle.placeholder.specs.Parts.{isImplied, fillRead, precisionRead}
 use Rattle.placeholder.specs.Types.{typeRead}
@@ -71,12 +72,12 @@ pastHint SignHint.Equals at = at + 1
 unfoldable pub onwardOf : Bool → SignHint → ℕ → ℕ
 onwardOf closed hint at = pick closed (at + 1) (pastHint hint at)
 
--- the number that starts at a byte
+-- the number that starts at a byte: one that is told is within the range
 pub record NumberTold (t : List ℕ) (at : ℕ) (p : PartTold) : Type 0 where
   pub one : Known p → p .tag ≡ 1
   pub read : Known p →
       numberRead t (place at) ≡ record {
-        number = Number.Given (p .value);
+        number = Number.Given (Numeral.Within (p .value));
         digits = rangeOf (place at) (place (p .end));
         flaw = Flaw.Clean;
       }

@@ -16,6 +16,7 @@ use Rattle.frame.specs.declared.TextPlace.{TextPlace}
 use Rattle.scan.specs.Ends.{spanAcross}
 use Rattle.scan.specs.declared.Count.{Count}
 use Rattle.scan.specs.declared.Flaw.{Flaw}
+use Rattle.scan.specs.declared.Numeral.{Numeral}
 use Rattle.placeholder.specs.Arguments.{resolved}
 use Rattle.closing.specs.Recovery.{because, gapAt, passedTo, textTaken}
 use Rattle.placeholder.specs.Specs.{noSpec}
@@ -41,15 +42,15 @@ use Rattle.quick.specs.declared.PlaceholderTold.{PlaceholderTold}
 unfoldable pub foundOf : ℕ → PartTold → Found
 foundOf at p =
     pick (eqb (p .tag) 0) Found.Nothing
-    (pick (eqb (p .tag) 1) (Found.Number (p .value))
+    (pick (eqb (p .tag) 1) (Found.Number (Numeral.Within (p .value)))
     (Found.Word (rangeOf (place at) (place (p .end)))))
 
 -- a width or a precision, with the next argument's number
 unfoldable pub countOf : ℕ → PartTold → Count
 countOf n p =
     pick (eqb (p .tag) 0) Count.Implied
-    (pick (eqb (p .tag) 1) (Count.Fixed (p .value))
-    (pick (eqb (p .tag) 2) (Count.ByArgument (p .value))
+    (pick (eqb (p .tag) 1) (Count.Fixed (Numeral.Within (p .value)))
+    (pick (eqb (p .tag) 2) (Count.ByArgument (Numeral.Within (p .value)))
     (Count.ByStar n)))
 
 -- a width that starts at a byte, where a word ends at another: with `$` the word is a name

@@ -1,4 +1,4 @@
--- The template bench of document 01, B1 to B15, further cases, notices and refusals: tables with every field of every record, one statement
+-- The template bench of document 01, B1 to B15, further cases, numbers that are too large, notices and refusals: tables with every field of every record, one statement
 -- that the checker computes. Format, no style, no snippet, where nothing else is said.
 use mathlib.Core.Path.{_≡_, refl}
 use mathlib.Core.Bool.{true, false}
@@ -15,9 +15,10 @@ use Rattle.frame.specs.Frames.{frameOf, body, hashMarks, opening, closing, rawL
 use Rattle.frame.specs.Spans.{toSnippet, startOf, spanBetween}
 use Rattle.scan.specs.Characters.{isAt, pastAt, consumed, spacesPast, isPlain, textEnd}
 use Rattle.scan.specs.Ends as ends
-use Rattle.scan.specs.Words.{wordEnd, isUnderscore, wordRead, isDigit, decimal, noted, digitsAt, numberFrom, numberRead}
+use Rattle.scan.specs.Words.{wordEnd, isUnderscore, wordRead, isDigit, decimal, numeral, digitsAt, numberFrom, numberRead}
 use Rattle.scan.specs.Counts.{isEmpty, numberCount, nameCount, countRead}
 use Rattle.scan.specs.declared.Count.{Count}
+use Rattle.scan.specs.declared.Numeral.{Numeral}
 use Rattle.placeholder.specs.Places.{isR, rawPlace, wordPlace, placeRead}
 use Rattle.placeholder.specs.Parts.{isAlign, fillRead, alignRead, signRead, plainWidth, widthRead, afterDot, precisionRead}
 use Rattle.placeholder.specs.Types.{hexType, isHexOrHash, debugType, wordType, typeRead}
@@ -56,15 +57,15 @@ table =
     []) [] ∷
     -- B5: width by argument 0, span 3..5, no zero flag
     bare 0 "{:0$}"
-    (arg 0 5 (Place.Next 0) (span 2 2) (spec Fill.Absent Align.Unknown false (Count.ByArgument 0) (some 3 5) Count.Implied none (range 4 4) none) ∷
+    (arg 0 5 (Place.Next 0) (span 2 2) (spec Fill.Absent Align.Unknown false (Count.ByArgument (Numeral.Within 0)) (some 3 5) Count.Implied none (range 4 4) none) ∷
     []) [] ∷
     -- B6: zero flag, width implied
     bare 0 "{:0}"
     (arg 0 4 (Place.Next 0) (span 2 2) (spec Fill.Absent Align.Unknown true Count.Implied none Count.Implied none (range 3 3) none) ∷ []) [] ∷
     -- B7: at 65535, clean
-    bare 0 "{65535}" (arg 0 7 (Place.At 65535) (span 2 7) (empty 6) ∷ []) [] ∷
-    -- B8: at 0; kind 7, span 2..8 (it takes in the next character)
-    bare 0 "{65536}" (arg 0 7 (Place.At 0) (span 2 7) (empty 6) ∷ []) (errorOf 7 (span 2 8) none (quoted 1 6) none ∷ []) ∷
+    bare 0 "{65535}" (arg 0 7 (Place.At (Numeral.Within 65535)) (span 2 7) (empty 6) ∷ []) [] ∷
+    -- B8: over; kind 7, span 2..8 (it takes in the next character)
+    bare 0 "{65536}" (arg 0 7 (Place.At Numeral.Over) (span 2 7) (empty 6) ∷ []) (errorOf 7 (span 2 8) none (quoted 1 6) none ∷ []) ∷
     -- B9: fill `}`, left; kind 3 at 4..4, second 3..4
     bare 0 "{:}<"
     (arg 0 4 (Place.Next 0) (span 2 2)
@@ -145,7 +146,7 @@ further =
     (errorOf 2 (span 3 3) (some 1 2) (quoted 2 3) none ∷ bareError 1 (span 8 9) ∷ []) ∷
     -- kinds 6 and 7 at the end, where spans lack the quote offset
     bare 0 "{_" (arg 0 2 (named 1 2) (span 2 2) (empty 2) ∷ []) (bareError 6 (span 2 2) ∷ errorOf 3 (span 2 2) (some 1 2) unquoted none ∷ []) ∷
-    bare 0 "{65536" (arg 0 6 (Place.At 0) (span 2 6) (empty 6) ∷ [])
+    bare 0 "{65536" (arg 0 6 (Place.At Numeral.Over) (span 2 6) (empty 6) ∷ [])
     (errorOf 7 (span 2 6) none (quoted 1 6) none ∷ errorOf 3 (span 6 6) (some 1 2) unquoted none ∷ []) ∷
     -- in Diagnostic the type's text starts after the colon, its span at the colon
     bare 2 "{a:x }" (arg 0 6 (named 1 2) (span 2 3) (typed 3 5 (some 3 6)) ∷ []) [] ∷
@@ -168,6 +169,60 @@ further =
       places = [];
       lines = span 2 3 ∷ span 4 3 ∷ [];
     } ∷
+    []
+
+-- numbers above 65,535, wherever a number stands: each is over range, no other number, and kind 7
+abbrev pub large : List Case
+large =
+    -- a place: 65,536 plus 65,536 is no 0 either; zeros in front do not count; forty digits
+    bare 0 "{131072}" (arg 0 8 (Place.At Numeral.Over) (span 2 8) (empty 7) ∷ []) (errorOf 7 (span 2 9) none (quoted 1 7) none ∷ []) ∷
+    bare 0 "{0000065535}" (arg 0 12 (Place.At (Numeral.Within 65535)) (span 2 12) (empty 11) ∷ []) [] ∷
+    bare 0 "{0000065536}" (arg 0 12 (Place.At Numeral.Over) (span 2 12) (empty 11) ∷ []) (errorOf 7 (span 2 13) none (quoted 1 11) none ∷ []) ∷
+    bare 0 "{9999999999999999999999999999999999999999}" (arg 0 42 (Place.At Numeral.Over) (span 2 42) (empty 41) ∷ [])
+    (errorOf 7 (span 2 43) none (quoted 1 41) none ∷ []) ∷
+    -- a width, without its flag and with it
+    bare 0 "{:65536}"
+    (arg 0 8 (Place.Next 0) (span 2 2) (spec Fill.Absent Align.Unknown false (Count.Fixed Numeral.Over) (some 3 8) Count.Implied none (range 7 7) none) ∷ [])
+    (errorOf 7 (span 3 9) none (quoted 2 7) none ∷ []) ∷
+    bare 0 "{:65535}"
+    (arg 0 8 (Place.Next 0) (span 2 2) (spec Fill.Absent Align.Unknown false (Count.Fixed (Numeral.Within 65535)) (some 3 8) Count.Implied none (range 7 7) none) ∷ []) [] ∷
+    -- a `$` after it is taken: by argument, and the flag beside it
+    bare 0 "{:65536$}"
+    (arg 0 9 (Place.Next 0) (span 2 2) (spec Fill.Absent Align.Unknown false (Count.ByArgument Numeral.Over) (some 3 9) Count.Implied none (range 8 8) none) ∷ [])
+    (errorOf 7 (span 3 9) none (quoted 2 7) none ∷ []) ∷
+    bare 0 "{:065536$}"
+    (arg 0 10 (Place.Next 0) (span 2 2) (spec Fill.Absent Align.Unknown true (Count.ByArgument Numeral.Over) (some 4 10) Count.Implied none (range 9 9) none) ∷ [])
+    (errorOf 7 (span 4 10) none (quoted 3 8) none ∷ []) ∷
+    -- a precision
+    bare 0 "{:.65536}"
+    (arg 0 9 (Place.Next 0) (span 2 2) (spec Fill.Absent Align.Unknown false Count.Implied none (Count.Fixed Numeral.Over) (some 3 9) (range 8 8) none) ∷ [])
+    (errorOf 7 (span 4 10) none (quoted 3 8) none ∷ []) ∷
+    bare 0 "{:.99999$}"
+    (arg 0 10 (Place.Next 0) (span 2 2) (spec Fill.Absent Align.Unknown false Count.Implied none (Count.ByArgument Numeral.Over) (some 3 10) (range 9 9) none) ∷ [])
+    (errorOf 7 (span 4 10) none (quoted 3 8) none ∷ []) ∷
+    -- all three at once, in their order
+    bare 0 "{65536:65537$.65538}"
+    (arg 0 20 (Place.At Numeral.Over) (span 2 7)
+    (spec Fill.Absent Align.Unknown false (Count.ByArgument Numeral.Over) (some 8 14) (Count.Fixed Numeral.Over) (some 14 20) (range 19 19) none) ∷
+    [])
+    (errorOf 7 (span 2 8) none (quoted 1 6) none ∷ errorOf 7 (span 8 14) none (quoted 7 12) none ∷ errorOf 7 (span 15 21) none (quoted 14 19) none ∷ []) ∷
+    -- a place takes no `$`
+    bare 0 "{065536$}" (arg 0 7 (Place.At Numeral.Over) (span 2 8) (empty 7) ∷ lit 7 8 ∷ [])
+    (errorOf 7 (span 2 9) none (quoted 1 7) none ∷ errorOf 2 (span 8 8) (some 1 2) (quoted 7 8) none ∷ bareError 1 (span 9 10) ∷ []) ∷
+    -- a tuple index: kind 7 at the back, 14 at the front
+    bare 0 "{a.65536}" (arg 0 9 (named 1 2) (span 2 3) (empty 2) ∷ [])
+    (bareError 14 (span 2 9) ∷ errorOf 2 (span 3 3) (some 1 2) (quoted 2 3) none ∷ errorOf 7 (span 4 10) none (quoted 3 8) none ∷ []) ∷
+    -- after a number no field is read
+    bare 0 "{0.65536}" (arg 0 2 (Place.At (Numeral.Within 0)) (span 2 3) (empty 2) ∷ lit 2 8 ∷ [])
+    (errorOf 2 (span 3 3) (some 1 2) (quoted 2 3) none ∷ bareError 1 (span 9 10) ∷ []) ∷
+    -- nor after one that is over range
+    bare 0 "{65536.0}" (arg 0 6 (Place.At Numeral.Over) (span 2 7) (empty 6) ∷ lit 6 8 ∷ [])
+    (errorOf 7 (span 2 8) none (quoted 1 6) none ∷ errorOf 2 (span 7 7) (some 1 2) (quoted 6 7) none ∷ bareError 1 (span 9 10) ∷ []) ∷
+    -- in InlineAsm and in Diagnostic a place is read in the same way, and nothing of a spec is a number
+    bare 1 "{65536:65536}" (arg 0 7 (Place.At Numeral.Over) (span 2 7) (empty 7) ∷ lit 7 12 ∷ [])
+    (errorOf 7 (span 2 8) none (quoted 1 6) none ∷ errorOf 2 (span 8 8) (some 1 2) (quoted 7 8) none ∷ bareError 1 (span 13 14) ∷ []) ∷
+    bare 2 "{65536:65536}" (arg 0 13 (Place.At Numeral.Over) (span 2 7) (typed 7 12 (some 7 13)) ∷ [])
+    (errorOf 7 (span 2 8) none (quoted 1 6) none ∷ []) ∷
     []
 
 -- line marks in notices: Diagnostic source literals with a newline in the text after the colon, a field's too, and in plain whitespace
@@ -222,17 +277,18 @@ refused =
 pub bench :
     (allGiven table ≡ table) ×
     (allGiven further ≡ further) ×
+    (allGiven large ≡ large) ×
     (allGiven notices ≡ notices) ×
     (answers refused ≡ expectations refused)
 unfolding
     allGiven bytesOf answers expectations pick within member start continue space isSpace isStart isContinue low high sequenceOf charOf sequenceAt decode peekAt
     valid validPrefix charsAt charsFrom takeWhile bytes runEnd frameOf body hashMarks opening closing rawLiteral same isLiteral endOf
     toSnippet startOf spanBetween isAt pastAt consumed spacesPast isPlain textEnd ends.endOf ends.spanAcross wordEnd isUnderscore wordRead
-    isDigit decimal noted digitsAt numberFrom numberRead isEmpty numberCount nameCount countRead isR rawPlace wordPlace placeRead isAlign
+    isDigit decimal numeral digitsAt numberFrom numberRead isEmpty numberCount nameCount countRead isR rawPlace wordPlace placeRead isAlign
     fillRead alignRead signRead plainWidth widthRead afterDot precisionRead hexType isHexOrHash debugType wordType typeRead formatRead
     diagnosticType specRead argumentRead noMarks noCounts isDefault isIdentifier gapAt fieldRead recoverRead
     missingRead placeholderRead afterOpen afterClose stepAt stepsFrom reading argumentSlots missingSlots closingSlots stepSlots wrong
     faultsOf recordOf before charsIn newlines cut lineAfter endedLines lineStart gather pieces frontOnly backOnly reversed listed records
     faults errors places literalChars toTheEnd sameSpan isLast linesIn lines countsOf isLong isBroken endsInNewline lacksNewline modeOf
     frameFor firstOf answerBy answerOf
-bench = (refl, refl, refl, refl)
+bench = (refl, refl, refl, refl, refl)

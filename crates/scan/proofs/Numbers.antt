@@ -1,4 +1,4 @@
--- Laws of numbers that wrap with the overflow noted, and of the digits at a place. Rests on Words and on `utf8`'s laws of runs.
+-- Laws of numbers that wrap with the overflow noted, and of the digits at a place. Rests on Words, Wrapping and on `utf8`'s laws of runs.
 use Prim.Native.Nat.{ℕ, _+_, _-_, _*_, _/_, _%_, _≤_, _<_, suc-le-suc}
 use mathlib.Core.Path.{_≡_, refl, sym, _∙_, ap}
 use mathlib.Core.Bool.{Bool, true, false}
@@ -14,7 +14,8 @@ use Rattle.utf8.specs.CharLaws.{Peeked, ended, run-more, run-stop, run-end}
 use Rattle.utf8.specs.declared.Seen.the-variants.{End}
 use Rattle.frame.specs.Places.{place}
 use Rattle.frame.specs.declared.TextPlace.{TextPlace}
-use Rattle.scan.specs.Words.{isDigit, decimal, noted, digitsAt, numberFrom, numberRead}
+use Rattle.scan.specs.Words.{isDigit, decimal, numeral, digitsAt, numberFrom, numberRead}
+use Rattle.scan.specs.Wrapping.{noted, told, told-noted}
 use Rattle.scan.specs.declared.Noted.{Noted}
 use Rattle.scan.specs.declared.NumberRead.{NumberRead}
 
@@ -106,7 +107,7 @@ digit-noted n t s d m {o} en et es eo =
 
 -- the number read at a place, where its digits before place i spell n
 unfoldable pub rest : List ℕ → ℕ → TextPlace → ℕ → NumberRead
-rest t n at i = numberFrom (noted (decimal n (digitsAt t (place i)))) at (place (runEnd isDigit t i))
+rest t n at i = numberFrom (numeral (decimal n (digitsAt t (place i)))) at (place (runEnd isDigit t i))
 
 -- with no digit before, it is the number read
 pub rest-all : (t : List ℕ) (at : TextPlace) → rest t 0 at (at .0) ≡ numberRead t at
@@ -119,12 +120,12 @@ module _ {t : List ℕ} {i : ℕ} (n : ℕ) (at : TextPlace) where
   unfolding rest digitsAt takeWhile decimal pick
   rest-more p y = simp (run-more isDigit p y, p .list, y)
 
-  -- no digit more: what is kept is the number read
-  pub rest-stop : {k : Noted} {c w : ℕ} → k ≡ noted n → Peeked t i c w → isDigit c ≡ false → numberFrom k at (place i) ≡ rest t n at i
+  -- no digit more: what is told of it is the number read
+  pub rest-stop : {k : Noted} {c w : ℕ} → k ≡ noted n → Peeked t i c w → isDigit c ≡ false → numberFrom (told k) at (place i) ≡ rest t n at i
   unfolding rest digitsAt takeWhile decimal pick
-  rest-stop e p y = simp (e, run-stop isDigit p y, p .list, y)
+  rest-stop e p y = simp (e, told-noted n, run-stop isDigit p y, p .list, y)
 
 -- likewise where the text ends
-pub rest-end : (t : List ℕ) (i n : ℕ) (at : TextPlace) {k : Noted} → k ≡ noted n → peekAt t i ≡ End → numberFrom k at (place i) ≡ rest t n at i
+pub rest-end : (t : List ℕ) (i n : ℕ) (at : TextPlace) {k : Noted} → k ≡ noted n → peekAt t i ≡ End → numberFrom (told k) at (place i) ≡ rest t n at i
 unfolding rest digitsAt takeWhile decimal
-rest-end t i n at e d = simp (e, run-end isDigit t i d, ended t i d)
+rest-end t i n at e d = simp (e, told-noted n, run-end isDigit t i d, ended t i d)

@@ -15,6 +15,7 @@ use Rattle.scan.specs.declared.Flaw.{Flaw}
 use Rattle.scan.specs.declared.WordRead.{WordRead}
 use Rattle.scan.specs.declared.Number.{Number}
 use Rattle.scan.specs.declared.NumberRead.{NumberRead}
+use Rattle.scan.specs.declared.Numeral.{Numeral}
 use Rattle.scan.specs.declared.Count.{Count}
 use Rattle.scan.specs.declared.CountRead.{CountRead}
 
@@ -25,8 +26,8 @@ isEmpty r = eqb (r .start .0) (r .end .0)
 abbrev pub counted : Count → TextPlace → Flaw → CountRead
 counted n at x = record { count = n; at = at; flaw = x }
 
--- a number, that ended at a place: with `$` after it, an argument's (R5.10)
-unfoldable pub numberCount : List ℕ → ℕ → TextPlace → Flaw → CountRead
+-- a number, that ended at a place: with `$` after it, an argument's, over range or not (R5.10)
+unfoldable pub numberCount : List ℕ → Numeral → TextPlace → Flaw → CountRead
 numberCount t n at x =
     let dollar = consumed t at (code "$") in
     pick (dollar .ate) (counted (Count.ByArgument n) (dollar .at) x) (counted (Count.Fixed n) at x)

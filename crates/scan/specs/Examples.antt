@@ -16,12 +16,13 @@ use Rattle.frame.specs.Spans.{toSnippet, startOf, spanBetween}
 use Rattle.frame.specs.declared.TextRange.{TextRange}
 use Rattle.frame.specs.declared.Frame.{Frame}
 use Rattle.scan.specs.Characters.{isAt, consumed, spacesPast, isPlain, textEnd}
-use Rattle.scan.specs.Words.{wordEnd, isUnderscore, wordRead, isDigit, decimal, noted, digitsAt, numberFrom, numberRead}
+use Rattle.scan.specs.Words.{wordEnd, isUnderscore, wordRead, isDigit, decimal, numeral, digitsAt, numberFrom, numberRead}
 use Rattle.scan.specs.Counts.{isEmpty, counted, numberCount, nameCount, countRead}
 use Rattle.scan.specs.declared.Flaw.{Flaw}
 use Rattle.scan.specs.declared.WordRead.{WordRead}
 use Rattle.scan.specs.declared.Number.{Number}
 use Rattle.scan.specs.declared.NumberRead.{NumberRead}
+use Rattle.scan.specs.declared.Numeral.{Numeral}
 use Rattle.scan.specs.declared.Count.{Count}
 
 -- the bytes from a to b
@@ -63,26 +64,31 @@ unfolding
     isStart isContinue member start continue
 words = (refl, refl, refl, refl)
 
--- numbers: `65535` is clean, of `65536` the remainder 0 is kept and the digits are a flaw, and `a` is none
+-- numbers: `65535` is clean, `65536` is over range and its digits are a flaw, leading zeros do not count, and `a` is none
 pub numbers :
-    (numberRead (0x36 ∷ 0x35 ∷ 0x35 ∷ 0x33 ∷ 0x35 ∷ []) (place 0) ≡ numbered (Number.Given 65535) (range 0 5) Flaw.Clean) ×
-    (numberRead (0x36 ∷ 0x35 ∷ 0x35 ∷ 0x33 ∷ 0x36 ∷ []) (place 0) ≡ numbered (Number.Given 0) (range 0 5) (Flaw.TooLarge (range 0 5))) ×
+    (numberRead (0x36 ∷ 0x35 ∷ 0x35 ∷ 0x33 ∷ 0x35 ∷ []) (place 0) ≡ numbered (Number.Given (Numeral.Within 65535)) (range 0 5) Flaw.Clean) ×
+    (numberRead (0x36 ∷ 0x35 ∷ 0x35 ∷ 0x33 ∷ 0x36 ∷ []) (place 0) ≡ numbered (Number.Given Numeral.Over) (range 0 5) (Flaw.TooLarge (range 0 5))) ×
+    (numberRead (0x30 ∷ 0x30 ∷ 0x30 ∷ 0x30 ∷ 0x30 ∷ 0x37 ∷ []) (place 0) ≡ numbered (Number.Given (Numeral.Within 7)) (range 0 6) Flaw.Clean) ×
     (numberRead (0x61 ∷ []) (place 0) ≡ numbered Number.Nothing (range 0 0) Flaw.Clean)
 unfolding
-    numberRead numberFrom digitsAt isDigit decimal noted peekAt decode charOf sequenceAt sequenceOf low high within pick runEnd charsFrom charsAt
+    numberRead numberFrom digitsAt isDigit decimal numeral peekAt decode charOf sequenceAt sequenceOf low high within pick runEnd charsFrom charsAt
     takeWhile bytes
-numbers = (refl, refl, refl)
+numbers = (refl, refl, refl, refl)
 
--- counts: `0$` is argument 0's, `a$` is by name, `7}` is fixed; a word without `$` is given back, and `_` keeps its flaw
+-- counts: `0$` is argument 0's, `a$` is by name, `7}` is fixed; over range a `$` is taken too; a word without `$` is given back, and `_` keeps its flaw
 pub counts :
-    (countRead (0x30 ∷ 0x24 ∷ []) plain (place 0) ≡ counted (Count.ByArgument 0) (place 2) Flaw.Clean) ×
+    (countRead (0x30 ∷ 0x24 ∷ []) plain (place 0) ≡ counted (Count.ByArgument (Numeral.Within 0)) (place 2) Flaw.Clean) ×
     (countRead (0x61 ∷ 0x24 ∷ []) plain (place 0) ≡
     counted (Count.ByName (range 0 1) (spanOf (snippet 1) (snippet 2))) (place 2) Flaw.Clean) ×
-    (countRead (0x37 ∷ 0x7D ∷ []) plain (place 0) ≡ counted (Count.Fixed 7) (place 1) Flaw.Clean) ×
+    (countRead (0x37 ∷ 0x7D ∷ []) plain (place 0) ≡ counted (Count.Fixed (Numeral.Within 7)) (place 1) Flaw.Clean) ×
+    (countRead (0x36 ∷ 0x35 ∷ 0x35 ∷ 0x33 ∷ 0x36 ∷ 0x24 ∷ []) plain (place 0) ≡
+    counted (Count.ByArgument Numeral.Over) (place 6) (Flaw.TooLarge (range 0 5))) ×
+    (countRead (0x36 ∷ 0x35 ∷ 0x35 ∷ 0x33 ∷ 0x36 ∷ 0x7D ∷ []) plain (place 0) ≡
+    counted (Count.Fixed Numeral.Over) (place 5) (Flaw.TooLarge (range 0 5))) ×
     (countRead (0x61 ∷ 0x7D ∷ []) plain (place 0) ≡ counted Count.Implied (place 0) Flaw.Clean) ×
     (countRead (0x5F ∷ 0x7D ∷ []) plain (place 0) ≡ counted Count.Implied (place 0) (Flaw.Underscore (range 0 1)))
 unfolding
-    countRead numberCount nameCount isEmpty spanBetween startOf toSnippet consumed numberRead numberFrom digitsAt isDigit decimal noted wordRead
+    countRead numberCount nameCount isEmpty spanBetween startOf toSnippet consumed numberRead numberFrom digitsAt isDigit decimal numeral wordRead
     wordEnd isUnderscore isAt peekAt decode charOf sequenceAt sequenceOf low high within pick runEnd charsFrom charsAt takeWhile bytes isStart
     isContinue member start continue
-counts = (refl, refl, refl, refl, refl)
+counts = (refl, refl, refl, refl, refl, refl, refl)

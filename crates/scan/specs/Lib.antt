@@ -2,6 +2,7 @@
 pub mod Characters
 pub mod Ends
 pub mod Words
+pub mod Wrapping
 pub mod Counts
 pub mod ScanLaws
 pub mod Examples

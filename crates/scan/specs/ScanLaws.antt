@@ -26,6 +26,7 @@ use Rattle.scan.specs.Counts.{numberCount, nameCount, countAfter, countR
 use Rattle.scan.specs.declared.Flaw.{Flaw}
 use Rattle.scan.specs.declared.NumberRead.{NumberRead}
 use Rattle.scan.specs.declared.Number.{Number}
+use Rattle.scan.specs.declared.Numeral.{Numeral}
 use Rattle.scan.specs.declared.CountRead.{CountRead}
 
 -- what holds of nothing at the end, and of each character that may be seen, holds of what is seen
@@ -208,7 +209,7 @@ module _ (t : List ℕ) (at : TextPlace) where
   pub number-in : at .0 ≤ length t → numberRead t at .digits .end .0 ≤ length t
   number-in h = rw number-range (run-in isDigit t (at .0) h)
 
-module _ (t : List ℕ) (n : ℕ) (at : TextPlace) (x : Flaw) where
+module _ (t : List ℕ) (n : Numeral) (at : TextPlace) (x : Flaw) where
   -- a count that is a number ends where the number does, or past its `$`
   number-count-on : at .0 ≤ numberCount t n at x .at .0
   unfolding numberCount

@@ -1,5 +1,5 @@
 -- A word and a number at a place.
-use Prim.Native.Nat.{ℕ, _+_, _-_, _*_, _%_}
+use Prim.Native.Nat.{ℕ, _+_, _-_, _*_}
 use Prim.Native.Char.{code}
 use mathlib.Core.Bool.{Bool}
 use mathlib.Core.List.{List, [], _∷_}
@@ -12,12 +12,13 @@ use Rattle.utf8.specs.declared.Seen.{Seen}
 use Rattle.utf8.specs.declared.Seen.the-variants.{Char, End}
 use Rattle.frame.specs.Places.{place, rangeOf}
 use Rattle.frame.specs.declared.TextPlace.{TextPlace}
+use Rattle.frame.specs.declared.TextRange.{TextRange}
 use Rattle.scan.specs.Characters.{isAt}
 use Rattle.scan.specs.declared.Flaw.{Flaw}
 use Rattle.scan.specs.declared.WordRead.{WordRead}
-use Rattle.scan.specs.declared.Noted.{Noted}
 use Rattle.scan.specs.declared.Number.{Number}
 use Rattle.scan.specs.declared.NumberRead.{NumberRead}
+use Rattle.scan.specs.declared.Numeral.{Numeral}
 
 -- the end of the word whose first character is seen at a place
 abbrev pub wordSeen : List ℕ → TextPlace → Seen → TextPlace
@@ -50,25 +51,26 @@ unfoldable pub decimal : ℕ → List Ch → ℕ
 decimal n [] = n
 decimal n (c ∷ cs) = decimal (n * 10 + (c .code - 0x30)) cs
 
--- "Above 65,535 it is an error, and the kept remainder is the number modulo 65,536." (R3.7)
-unfoldable pub noted : ℕ → Noted
-noted n = record { value = n % 65536; over = ltb 65535 n }
+-- a number as it is answered: "over range" above 65,535, else the number itself (R3.7)
+unfoldable pub numeral : ℕ → Numeral
+numeral n = pick (ltb 65535 n) Numeral.Over (Numeral.Within n)
+
+-- "Above 65,535 it is an error": kind 7, of its digits (K7)
+abbrev pub tooLarge : Numeral → TextRange → Flaw
+tooLarge (Numeral.Within n) digits = Flaw.Clean
+tooLarge Numeral.Over digits = Flaw.TooLarge digits
 
 -- the digits at a place
 unfoldable pub digitsAt : List ℕ → TextPlace → List Ch
 digitsAt t at = takeWhile isDigit (charsFrom t (at .0))
 
--- what the digits between two places come to, where they spell a number that is kept so (R3.7)
-unfoldable pub numberFrom : Noted → TextPlace → TextPlace → NumberRead
-numberFrom k at end =
+-- what the digits between two places come to, where they spell a number that is answered so (R3.7)
+unfoldable pub numberFrom : Numeral → TextPlace → TextPlace → NumberRead
+numberFrom n at end =
     pick (eqb (at .0) (end .0))
     (record { number = Number.Nothing; digits = rangeOf at end; flaw = Flaw.Clean })
-    (record {
-      number = Number.Given (k .value);
-      digits = rangeOf at end;
-      flaw = pick (k .over) (Flaw.TooLarge (rangeOf at end)) Flaw.Clean;
-    })
+    (record { number = Number.Given n; digits = rangeOf at end; flaw = tooLarge n (rangeOf at end) })
 
--- "A number is one or more ASCII digits." Kind 7 where it is too large. (R3.7, K7)
+-- "A number is one or more ASCII digits." (R3.7)
 unfoldable pub numberRead : List ℕ → TextPlace → NumberRead
-numberRead t at = numberFrom (noted (decimal 0 (digitsAt t at))) at (place (runEnd isDigit t (at .0)))
+numberRead t at = numberFrom (numeral (decimal 0 (digitsAt t at))) at (place (runEnd isDigit t (at .0)))

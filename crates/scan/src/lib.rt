@@ -14,7 +14,8 @@ ghost use Rattle.utf8.specs.Chars.{runEnd};
 ghost use Rattle.utf8.specs.Blocks.{one, howMany};
 ghost use Rattle.scan.specs.Characters.{isAt, pastAt, consumed, spacesPast, isPlain, isBrace, textEnd};
 ghost use Rattle.scan.specs.Ends.{endOf, spanAcross};
-ghost use Rattle.scan.specs.Words.{isDigit, wordEnd, wordRead, noted, numberFrom, numberRead};
+ghost use Rattle.scan.specs.Words.{isDigit, wordEnd, wordRead, numberFrom, numberRead};
+ghost use Rattle.scan.specs.Wrapping.{noted, told};
 ghost use Rattle.scan.specs.Counts.{isEmpty, numberCount, nameCount, countRead};
 
 // What a leaf of the reader found wrong, with the bytes that its record is made from.
@@ -43,15 +44,21 @@ pub struct WordRead {
     pub flaw: Flaw,
 }
 
-// A number modulo 65,536, and whether it is above 65,535.
+// A number modulo 65,536, and whether it is above 65,535. Only the reading of digits carries it.
 pub struct Noted {
     pub value: u16,
     pub over: bool,
 }
 
+// A number that is written: itself, or over range where it is above 65,535.
+pub enum Numeral {
+    Within(u16),
+    Over,
+}
+
 pub enum Number {
     Nothing,
-    Given(u16),
+    Given(Numeral),
 }
 
 pub struct NumberRead {
@@ -63,9 +70,9 @@ pub struct NumberRead {
 // A width or a precision.
 pub enum Count {
     Implied,
-    Fixed(u16),
+    Fixed(Numeral),
     ByName(TextRange, Span),
-    ByArgument(u16),
+    ByArgument(Numeral),
     ByStar(usize),
 }
 
@@ -312,7 +319,7 @@ fn is_digit(code: u32) -> bool
     if 0x30 <= code { code <= 0x39 } else { false }
 }
 
-// The digits at a place as a number; above 65,535 it is a flaw, and the remainder is kept.
+// The digits at a place as a number; above 65,535 it is over range, and a flaw.
 pub fn integer(text: &[u8], at: TextPlace) -> NumberRead
     ensures { λ r. ⌜ r ≡ numberRead (now (text .entry)) at ⌝ }
 {
@@ -338,9 +345,9 @@ pub fn integer(text: &[u8], at: TextPlace) -> NumberRead
     }
 }
 
-// What digits between two places come to, with the number that they spell.
+// What digits between two places come to, with the number that they spell. Where it wrapped, its remainder is dropped.
 fn number_of(kept: Noted, at: TextPlace, end: TextPlace) -> NumberRead
-    ensures { λ r. ⌜ r ≡ numberFrom kept at end ⌝ }
+    ensures { λ r. ⌜ r ≡ numberFrom (told kept) at end ⌝ }
 {
     let digits = TextRange { start: at, end };
     if at.0 == end.0 {
@@ -350,16 +357,15 @@ fn number_of(kept: Noted, at: TextPlace, end: TextPlace) -> NumberRead
             flaw: Flaw::Clean,
         };
     }
-    let number = Number::Given(kept.value);
     if kept.over {
         return NumberRead {
-            number,
+            number: Number::Given(Numeral::Over),
             digits,
             flaw: Flaw::TooLarge(digits),
         };
     }
     NumberRead {
-        number,
+        number: Number::Given(Numeral::Within(kept.value)),
         digits,
         flaw: Flaw::Clean,
     }
@@ -372,8 +378,8 @@ pub fn is_empty(range: TextRange) -> bool
     range.start.0 == range.end.0
 }
 
-// A count that began with a number: `$` after it makes it an argument's.
-fn number_count(text: &[u8], value: u16, at: TextPlace, flaw: Flaw) -> CountRead
+// A count that began with a number: `$` after it makes it an argument's, over range or not.
+fn number_count(text: &[u8], value: Numeral, at: TextPlace, flaw: Flaw) -> CountRead
     ensures { λ r. ⌜ r ≡ numberCount (now (text .entry)) value at flaw ⌝ }
 {
     let dollar = consume(text, at, b'$');

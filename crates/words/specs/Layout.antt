@@ -5,6 +5,7 @@ use mathlib.Core.List.{List, [], _∷_, _++_}
 use Rattle.frame.specs.declared.Span.{Span}
 use Rattle.frame.specs.declared.TextRange.{TextRange}
 use Rattle.scan.specs.declared.Count.{Count}
+use Rattle.scan.specs.declared.Numeral.{Numeral}
 use Rattle.placeholder.specs.declared.Align.{Align}
 use Rattle.placeholder.specs.declared.Argument.{Argument}
 use Rattle.placeholder.specs.declared.Fill.{Fill}
@@ -47,15 +48,25 @@ hexOf Hex.Absent = 0
 hexOf Hex.Lower = 1
 hexOf Hex.Upper = 2
 
+-- one tag for a number, another for one that is over range
+abbrev pub numeralTag : ℕ → ℕ → Numeral → ℕ
+numeralTag within over (Numeral.Within n) = within
+numeralTag within over Numeral.Over = over
+
+-- the number itself; over range there is none, as the tag says, and 0 stands here
+abbrev pub numeralOf : Numeral → ℕ
+numeralOf (Numeral.Within n) = n
+numeralOf Numeral.Over = 0
+
 abbrev pub placeTag : Place → ℕ
 placeTag (Place.Next n) = 0
-placeTag (Place.At n) = 1
+placeTag (Place.At n) = numeralTag 1 3 n
 placeTag (Place.Named r) = 2
 
 -- a place's number or name, and its span
 abbrev pub placeWords : Place → Span → List ℕ
 placeWords (Place.Next n) s = four (lowOf n) 0 (lowOf (s .start .0)) (lowOf (s .end .0))
-placeWords (Place.At n) s = four n 0 (lowOf (s .start .0)) (lowOf (s .end .0))
+placeWords (Place.At n) s = four (numeralOf n) 0 (lowOf (s .start .0)) (lowOf (s .end .0))
 placeWords (Place.Named r) s = four (lowOf (r .start .0)) (lowOf (r .end .0)) (lowOf (s .start .0)) (lowOf (s .end .0))
 
 abbrev pub fillWords : Fill → List ℕ
@@ -70,8 +81,8 @@ spanWords first (MaybeSpan.Present s) = four first 1 (lowOf (s .start .0)) (lowO
 -- a count's kind and data, but for the end of a name's span
 abbrev pub countData : Count → List ℕ
 countData Count.Implied = none
-countData (Count.Fixed n) = four 1 n 0 0
-countData (Count.ByArgument n) = four 2 n 0 0
+countData (Count.Fixed n) = four (numeralTag 1 5 n) (numeralOf n) 0 0
+countData (Count.ByArgument n) = four (numeralTag 2 6 n) (numeralOf n) 0 0
 countData (Count.ByStar n) = four 3 (lowOf n) 0 0
 countData (Count.ByName r s) = four 4 (lowOf (r .start .0)) (lowOf (r .end .0)) (lowOf (s .start .0))
 

@@ -11,12 +11,13 @@ use placeholder::Sign;
 use reading::ErrorRecord;
 use reading::MaybeRange;
 use scan::Count;
+use scan::Numeral;
 ghost use mathlib.Core.Path.{_≡_};
 ghost use Prim.Native.Nat.{_+_, _*_, _≤_};
 ghost use lib.ListN.{length};
 ghost use Rattle.frame.specs.Places.{place, rangeOf};
 ghost use Rattle.words.specs.Laid.{laid};
-ghost use Rattle.words.specs.Layout.{lowOf, four, bitOf, alignOf, signOf, hexOf, placeTag, placeWords, fillWords, spanWords, countData, nameSpanEnd, countWords, rangeWords, argumentWords, zeros, literalWords, errorWords};
+ghost use Rattle.words.specs.Layout.{lowOf, four, bitOf, alignOf, signOf, hexOf, numeralTag, numeralOf, placeTag, placeWords, fillWords, spanWords, countData, nameSpanEnd, countWords, rangeWords, argumentWords, zeros, literalWords, errorWords};
 ghost use Rattle.reading.specs.Records.{bareError};
 
 // A number's low 32 bits. No place, span or argument number of a reading has more.
@@ -73,12 +74,31 @@ fn hex_word(hex: Hex) -> u32
     }
 }
 
+// One tag for a number, another for one that is over range: no value stands for it.
+fn numeral_tag(within: u32, over: u32, number: Numeral) -> u32
+    ensures { λ r. ⌜ r ≡ numeralTag within over number ⌝ }
+{
+    match number {
+        Numeral::Within(_) => within,
+        Numeral::Over => over,
+    }
+}
+
+fn numeral_word(number: Numeral) -> u32
+    ensures { λ r. ⌜ r ≡ numeralOf number ⌝ }
+{
+    match number {
+        Numeral::Within(n) => n as u32,
+        Numeral::Over => 0,
+    }
+}
+
 fn place_tag(place: Place) -> u32
     ensures { λ r. ⌜ r ≡ placeTag place ⌝ }
 {
     match place {
         Place::Next(_) => 0,
-        Place::At(_) => 1,
+        Place::At(number) => numeral_tag(1, 3, number),
         Place::Named(_) => 2,
     }
 }
@@ -91,7 +111,7 @@ fn put_place(out: &mut [u32], k: usize, place: Place, span: Span)
     let end = low(span.end.0);
     match place {
         Place::Next(next) => put4(out, k, low(next), 0, start, end),
-        Place::At(number) => put4(out, k, number as u32, 0, start, end),
+        Place::At(number) => put4(out, k, numeral_word(number), 0, start, end),
         Place::Named(name) => put4(out, k, low(name.start.0), low(name.end.0), start, end),
     }
 }
@@ -124,8 +144,8 @@ fn put_count_data(out: &mut [u32], k: usize, count: Count)
 {
     match count {
         Count::Implied => put4(out, k, 0, 0, 0, 0),
-        Count::Fixed(n) => put4(out, k, 1, n as u32, 0, 0),
-        Count::ByArgument(n) => put4(out, k, 2, n as u32, 0, 0),
+        Count::Fixed(n) => put4(out, k, numeral_tag(1, 5, n), numeral_word(n), 0, 0),
+        Count::ByArgument(n) => put4(out, k, numeral_tag(2, 6, n), numeral_word(n), 0, 0),
         Count::ByStar(n) => put4(out, k, 3, low(n), 0, 0),
         Count::ByName(name, span) => {
             put4(

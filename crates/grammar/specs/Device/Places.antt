@@ -14,6 +14,7 @@ use Rattle.frame.specs.declared.TextPlace.{TextPlace}
 use Rattle.frame.specs.declared.TextRange.{TextRange}
 use Rattle.scan.specs.Words.{isDigit}
 use Rattle.scan.specs.declared.Flaw.{Flaw}
+use Rattle.scan.specs.declared.Numeral.{Numeral}
 use Rattle.placeholder.specs.Places.{placed, isR, rawPlace, wordAfter, wordPlace, placeRead}
 use Rattle.placeholder.specs.declared.position.Found.{Found}
 use Rattle.placeholder.specs.declared.position.PlaceRead.{PlaceRead}
@@ -23,12 +24,12 @@ use Rattle.grammar.specs.Device.Runs.{caseB, takeW, dropW, Stops, take-d
 use Rattle.grammar.specs.Device.Parser.{Got, got, okNumber, okWord, positionOf, hashWord, rawAt}
 use Rattle.grammar.specs.Device.Given.{r-start}
 use Rattle.grammar.specs.Device.Stands.{mark-wide, wide-some, Stands, take-none, stands-past, consume-yes, consume-no, past-ascii}
-use Rattle.grammar.specs.Device.Words.{flawless, clean-pick, empty, not-empty, word-none, wordOf, word-some, number-none, numberAt, number-some, kept-value, past-word}
+use Rattle.grammar.specs.Device.Words.{flawless, clean-pick, empty, not-empty, word-none, wordOf, word-some, number-none, numberAt, number-some, right-value, past-word}
 
 -- a place that was found is what is written at byte p
 abbrev pub IsFound : ℕ → Position → Found → Type 0
 IsFound p next x = x ≡ Found.Nothing
-IsFound p (number d ds) x = x ≡ Found.Number (value 0 (d ∷ ds))
+IsFound p (number d ds) x = x ≡ Found.Number (Numeral.Within (value 0 (d ∷ ds)))
 IsFound p (word c r) x = x ≡ Found.Word (bytesAt p (c ∷ r))
 
 -- no code
@@ -130,7 +131,7 @@ module _ (t : List ℕ) where
         stands = past-word t at isDigit c cs h;
         clean = clean-pick (okNumber c ds) (Flaw.TooLarge (rangeOf at e)) refl;
         raw = refl;
-        found = λ z. ap Found.Number (kept-value c ds z);
+        found = λ z. ap Found.Number (right-value c ds z);
       }))
       (λ k.
       caseB (isStart c)

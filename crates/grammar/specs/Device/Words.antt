@@ -3,8 +3,8 @@
 use mathlib.Core.Path.{_≡_, refl, ap, _∙_}
 use mathlib.Core.List.{List, [], _∷_}
 use mathlib.Core.Bool.{Bool, true, false, not}
-use Prim.Native.Nat.{ℕ, _+_, _-_, _*_, _%_}
-use native.Mathlib.Nat.{add-assoc, mod-eq-of-lt}
+use Prim.Native.Nat.{ℕ, _+_, _-_, _*_}
+use native.Mathlib.Nat.{add-assoc}
 use native.Mathlib.Omega.{arith}
 use borrow.Author.Tests.{eq-eqb, ne-eqb, leb-true, leb-false, lt-ltb, le-ltb}
 use lib.Dec.{eqb, leb, ltb}
@@ -15,14 +15,16 @@ use Rattle.utf8.specs.CharLaws.{seen-in}
 use Rattle.letters.specs.Questions.{isStart, isContinue}
 use Rattle.frame.specs.Places.{place, rangeOf}
 use Rattle.frame.specs.declared.TextPlace.{TextPlace}
+use Rattle.frame.specs.declared.TextRange.{TextRange}
 use Rattle.frame.specs.declared.Frame.{Frame}
 use Rattle.scan.specs.Characters.{isAt}
-use Rattle.scan.specs.Words.{wordSeen, wordEnd, isUnderscore, wordRead, isDigit, decimal, noted, digitsAt, numberFrom, numberRead}
+use Rattle.scan.specs.Words.{wordSeen, wordEnd, isUnderscore, wordRead, isDigit, decimal, numeral, tooLarge, digitsAt, numberFrom, numberRead}
 use Rattle.scan.specs.Counts.{isEmpty, counted, numberCount, nameAfter, nameCount, countRead}
 use Rattle.scan.specs.declared.Flaw.{Flaw}
 use Rattle.scan.specs.declared.WordRead.{WordRead}
 use Rattle.scan.specs.declared.Number.{Number}
 use Rattle.scan.specs.declared.NumberRead.{NumberRead}
+use Rattle.scan.specs.declared.Numeral.{Numeral}
 use Rattle.scan.specs.declared.Count.{Count}
 use Rattle.scan.specs.declared.CountRead.{CountRead}
 use Rattle.reading.specs.Faults.{isClean, flawFault}
@@ -118,11 +120,20 @@ unfolding decimal chars
 decimal-value n i [] = refl
 decimal-value n i (d ∷ ds) = decimal-value (n * 10 + (d - 0x30)) (i + wide d) ds
 
-over-not : (n : ℕ) → ltb 65535 n ≡ not (leb n 65535)
-over-not n =
-    caseB (leb n 65535)
-    (λ k. cc (le-ltb 65535 n (leb-true n 65535 k)))
-    (λ k. cc (lt-ltb 65535 n (leb-false n 65535 k)))
+-- a number up to 65,535 is answered as itself
+within-numeral : (n : ℕ) → leb n 65535 ≡ true → numeral n ≡ Numeral.Within n
+unfolding numeral pick
+within-numeral n k = rw (le-ltb 65535 n (leb-true n 65535 k))
+
+-- and any other is over range
+over-numeral : (n : ℕ) → leb n 65535 ≡ false → numeral n ≡ Numeral.Over
+unfolding numeral pick
+over-numeral n k = rw (lt-ltb 65535 n (leb-false n 65535 k))
+
+-- which alone is a flaw
+large-numeral : (n : ℕ) (r : TextRange) → tooLarge (numeral n) r ≡ pick (leb n 65535) Flaw.Clean (Flaw.TooLarge r)
+unfolding pick
+large-numeral n r = caseB (leb n 65535) (λ k. rw (within-numeral n k, k)) (λ k. rw (over-numeral n k, k))
 
 module _ (t : List ℕ) (at : TextPlace) where
   pub number-none : (cs : List ℕ) → Stands t (at .0) cs → Stops isDigit cs →
@@ -135,7 +146,7 @@ module _ (t : List ℕ) (at : TextPlace) where
   numberAt d ds =
       let end = place (at .0 + size (d ∷ ds)) in
       record {
-        number = Number.Given (value 0 (d ∷ ds) % 65536);
+        number = Number.Given (numeral (value 0 (d ∷ ds)));
         digits = rangeOf at end;
         flaw = pick (okNumber d ds) Flaw.Clean (Flaw.TooLarge (rangeOf at end));
       }
@@ -145,7 +156,7 @@ module _ (t : List ℕ) (at : TextPlace) where
   taken d cs s = cc
 
   pub number-some : (d : ℕ) (cs : List ℕ) → Stands t (at .0) (d ∷ cs) → isDigit d ≡ true → numberRead t at ≡ numberAt d (takeW isDigit cs)
-  unfolding numberRead numberFrom digitsAt noted okNumber numberAt pick size
+  unfolding numberRead numberFrom digitsAt okNumber numberAt pick size
   number-some d cs h s =
       let ds : List ℕ = takeW isDigit cs in
       let v : ℕ = value 0 (d ∷ ds) in
@@ -154,14 +165,13 @@ module _ (t : List ℕ) (at : TextPlace) where
       ap (decimal 0) (run-chars isDigit t (at .0) (d ∷ cs) h ∙ ap (chars (at .0)) (taken d cs s)) ∙ decimal-value 0 (at .0) (d ∷ ds) in
       cc (
         ne-eqb (at .0) (at .0 + (wide d + size ds)) (omega (arith, wide-some d)),
-        over-not v,
-        pick-not (leb v 65535) (Flaw.TooLarge (rangeOf at (place (at .0 + size (d ∷ ds))))) Flaw.Clean,
+        large-numeral v (rangeOf at (place (at .0 + size (d ∷ ds)))),
       )
 
--- a number up to 65,535 is kept
-pub kept-value : (d : ℕ) (ds : List ℕ) → okNumber d ds ≡ true → value 0 (d ∷ ds) % 65536 ≡ value 0 (d ∷ ds)
+-- a number that is right is answered as itself
+pub right-value : (d : ℕ) (ds : List ℕ) → okNumber d ds ≡ true → numeral (value 0 (d ∷ ds)) ≡ Numeral.Within (value 0 (d ∷ ds))
 unfolding okNumber
-kept-value d ds k = mod-eq-of-lt (omega (arith, leb-true (value 0 (d ∷ ds)) 65535 k))
+right-value d ds k = within-numeral (value 0 (d ∷ ds)) k
 
 -- COUNTS
 module _ (t : List ℕ) (f : Frame) where
@@ -172,16 +182,16 @@ module _ (t : List ℕ) (f : Frame) where
     pub found : g .ok ≡ true → r .count ≡ countOf (f .quote) (at .0) (g .val)
 
   number-count : (at : TextPlace) (d : ℕ) (ds u : List ℕ) (x : Flaw) (e : TextPlace) → flawless x ≡ okNumber d ds → Stands t (e .0) u →
-      CountSame at (numberOf d ds u) (numberCount t (value 0 (d ∷ ds) % 65536) e x)
+      CountSame at (numberOf d ds u) (numberCount t (numeral (value 0 (d ∷ ds))) e x)
   unfolding numberOf numberCount pick
   number-count at d ds [] x e k h =
-      rw (consume-no t e 0x24 [] h refl) (record { stands = h; clean = k; found = λ z. ap Count.Fixed (kept-value d ds z) })
+      rw (consume-no t e 0x24 [] h refl) (record { stands = h; clean = k; found = λ z. ap Count.Fixed (right-value d ds z) })
   number-count at d ds (c ∷ u) x e k h =
       caseB (eqb c 0x24)
       (λ l.
       rw (consume-yes t e 0x24 (c ∷ u) h l, l, numberOf)
-      (record { stands = past-ascii t (e .0) 0x24 c u (omega arith) h l; clean = k; found = λ z. ap Count.ByArgument (kept-value d ds z) }))
-      (λ l. rw (consume-no t e 0x24 (c ∷ u) h l, l, numberOf) (record { stands = h; clean = k; found = λ z. ap Count.Fixed (kept-value d ds z) }))
+      (record { stands = past-ascii t (e .0) 0x24 c u (omega arith) h l; clean = k; found = λ z. ap Count.ByArgument (right-value d ds z) }))
+      (λ l. rw (consume-no t e 0x24 (c ∷ u) h l, l, numberOf) (record { stands = h; clean = k; found = λ z. ap Count.Fixed (right-value d ds z) }))
 
   name-count : (at : TextPlace) (c : ℕ) (r u cs : List ℕ) → Stands t (at .0) cs → Stands t (at .0 + size (c ∷ r)) u →
       CountSame at (nameOf c r u cs) (nameAfter t f at (wordOf t at c r))

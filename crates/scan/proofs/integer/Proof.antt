@@ -10,7 +10,8 @@ use denote.Ref.{now}
 use Rattle.utf8.specs.Choice.{within}
 use Rattle.utf8.specs.ChoiceLaws.{within-low, within-high}
 use Rattle.utf8.specs.CharLaws.{Peeked, peeked}
-use Rattle.scan.specs.Words.{isDigit, noted, numberRead}
+use Rattle.scan.specs.Words.{isDigit, numberRead}
+use Rattle.scan.specs.Wrapping.{noted}
 use Rattle.scan.proofs.Numbers.{rest, rest-all, rest-more, rest-stop, rest-end}
 use Rattle.scan.proofs.integer.Statement.{statement}
 use Rattle.scan.proofs.integer.Tie as tie

@@ -12,8 +12,11 @@ put4-requires c κs = search needs
 enum-known-count : tie.Need-enum-known-count
 enum-known-count c = search needs
 
-cast-put4 : tie.Need-cast-put4
-cast-put4 c = search needs
+numeral-tag-requires : tie.Need-numeral-tag-requires
+numeral-tag-requires c κs = search needs
+
+numeral-word-requires : tie.Need-numeral-word-requires
+numeral-word-requires c κs = search needs
 
 put4-requires-2 : tie.Need-put4-requires-2
 put4-requires-2 c κs = search needs
@@ -21,8 +24,11 @@ put4-requires-2 c κs = search needs
 enum-known-count-2 : tie.Need-enum-known-count-2
 enum-known-count-2 c = search needs
 
-cast-put4-2 : tie.Need-cast-put4-2
-cast-put4-2 c = search needs
+numeral-tag-requires-2 : tie.Need-numeral-tag-requires-2
+numeral-tag-requires-2 c κs = search needs
+
+numeral-word-requires-2 : tie.Need-numeral-word-requires-2
+numeral-word-requires-2 c κs = search needs
 
 put4-requires-3 : tie.Need-put4-requires-3
 put4-requires-3 c κs = search needs
@@ -61,13 +67,13 @@ same-length-2 : tie.Need-same-length-2
 same-length-2 c = search needs
 
 returns-2 : tie.Need-returns-2
-returns-2 c = rw (c .before .before .before .before .before .count .given .1) (c .before .before .put42 .ensures)
+returns-2 c = rw (c .before .before .before .before .before .before .before .count .given .1, ← c .before .before .before .before .numeral-tag .ensures, ← c .before .before .before .numeral-word .ensures) (c .before .before .put42 .ensures)
 
 same-length-3 : tie.Need-same-length-3
 same-length-3 c = search needs
 
 returns-3 : tie.Need-returns-3
-returns-3 c = rw (c .before .before .before .before .before .count2 .given .1) (c .before .before .put43 .ensures)
+returns-3 c = rw (c .before .before .before .before .before .before .before .count2 .given .1, ← c .before .before .before .before .numeral-tag2 .ensures, ← c .before .before .before .numeral-word2 .ensures) (c .before .before .put43 .ensures)
 
 same-length-4 : tie.Need-same-length-4
 same-length-4 c = search needs
@@ -88,10 +94,12 @@ put-count-data-spec =
     enum-told
     put4-requires
     enum-known-count
-    cast-put4
+    numeral-tag-requires
+    numeral-word-requires
     put4-requires-2
     enum-known-count-2
-    cast-put4-2
+    numeral-tag-requires-2
+    numeral-word-requires-2
     put4-requires-3
     enum-known-count-3
     low-requires

@@ -21,8 +21,8 @@ put4-requires c κs = search needs
 enum-known-place-2 : tie.Need-enum-known-place-2
 enum-known-place-2 c = search needs
 
-cast-put4 : tie.Need-cast-put4
-cast-put4 c = search needs
+numeral-word-requires : tie.Need-numeral-word-requires
+numeral-word-requires c κs = search needs
 
 put4-requires-2 : tie.Need-put4-requires-2
 put4-requires-2 c κs = search needs
@@ -49,7 +49,7 @@ same-length-2 : tie.Need-same-length-2
 same-length-2 c = search needs
 
 returns-2 : tie.Need-returns-2
-returns-2 c = rw (c .before .before .before .before .before .place2 .given .1, ← c .before .before .before .before .before .before .before .before .low .ensures, ← c .before .before .before .before .before .before .before .low2 .ensures) (c .before .before .put42 .ensures)
+returns-2 c = rw (c .before .before .before .before .before .before .place2 .given .1, ← c .before .before .before .before .before .before .before .before .before .low .ensures, ← c .before .before .before .before .before .before .before .before .low2 .ensures, ← c .before .before .before .numeral-word .ensures) (c .before .before .put42 .ensures)
 
 same-length-3 : tie.Need-same-length-3
 same-length-3 c = search needs
@@ -67,7 +67,7 @@ put-place-spec =
     low-requires-3
     put4-requires
     enum-known-place-2
-    cast-put4
+    numeral-word-requires
     put4-requires-2
     enum-known-place-3
     low-requires-4

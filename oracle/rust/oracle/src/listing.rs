@@ -2,7 +2,7 @@
 
 use crate::answer::Answer;
 use crate::error_record::ErrorRecord;
-use crate::ranges::{range_of, type_range};
+use crate::ranges::{is_over, range_of, type_range};
 use crate::reading::{PieceRecord, Reading};
 use parse_format::{Alignment, Argument, Count, DebugHex, FormatSpec, Position, Sign};
 use std::ops::Range;
@@ -39,9 +39,7 @@ impl Listing {
         for piece in &reading.pieces {
             match piece {
                 PieceRecord::Literal(bytes) => self.word("lit").bytes(bytes).end(),
-                PieceRecord::Argument(bytes, argument) => {
-                    self.argument(reading.text, bytes, argument);
-                }
+                PieceRecord::Argument(bytes, argument) => self.argument(reading, bytes, argument),
             }
         }
         for error in &reading.errors {
@@ -55,21 +53,25 @@ impl Listing {
         }
     }
 
-    fn argument(&mut self, text: &str, bytes: &Range<usize>, argument: &Argument<'_>) {
+    fn argument(&mut self, reading: &Reading<'_>, bytes: &Range<usize>, argument: &Argument<'_>) {
+        let text = reading.text;
         self.word("arg").bytes(bytes);
         match argument.position {
             Position::ArgumentImplicitlyIs(index) => self.word("next").number(index),
+            // The place stands directly behind the brace.
+            Position::ArgumentIs(_) if is_over(text, bytes.start + 1) => self.word("over"),
             Position::ArgumentIs(index) => self.word("at").number(index),
             Position::ArgumentNamed(word) => self.word("name").bytes(&range_of(text, word)),
         };
         self.word("span").span(&argument.position_span);
-        self.spec(text, &argument.format);
+        self.spec(reading, &argument.format);
         self.word("type").bytes(&type_range(text, bytes.start, argument));
         self.optional_span(argument.format.ty_span.as_ref()).end();
     }
 
     /// The parts of a spec before its type.
-    fn spec(&mut self, text: &str, spec: &FormatSpec<'_>) {
+    fn spec(&mut self, reading: &Reading<'_>, spec: &FormatSpec<'_>) {
+        let (width, precision) = (spec.width_span.as_ref(), spec.precision_span.as_ref());
         self.word("fill");
         match (spec.fill, &spec.fill_span) {
             (Some(fill), Some(span)) => self.number(fill as usize).span(span),
@@ -80,20 +82,45 @@ impl Listing {
         self.word("alt").number(spec.alternate.into());
         self.word("zero").number(spec.zero_pad.into());
         self.word("hex").number(hex_number(spec.debug_hex));
-        self.word("width").count(text, &spec.width).optional_span(spec.width_span.as_ref());
-        self.word("precision").count(text, &spec.precision);
-        self.optional_span(spec.precision_span.as_ref());
+        self.word("width").count(reading, &spec.width, width, 0).optional_span(width);
+        self.word("precision").count(reading, &spec.precision, precision, 1);
+        self.optional_span(precision);
     }
 
-    fn count(&mut self, text: &str, count: &Count<'_>) -> &mut Self {
+    /// A count, which starts so many bytes behind its span's start.
+    fn count(
+        &mut self,
+        reading: &Reading<'_>,
+        count: &Count<'_>,
+        span: Option<&Range<usize>>,
+        dot: usize,
+    ) -> &mut Self {
         match count {
             Count::CountImplied => self.word("implied"),
-            Count::CountIs(number) => self.word("fixed").number((*number).into()),
-            Count::CountIsName(word, span) => {
-                self.word("name").bytes(&range_of(text, word)).span(span)
+            Count::CountIs(number) => {
+                self.word("fixed").numeral(reading, (*number).into(), span, dot)
             }
-            Count::CountIsParam(index) => self.word("arg").number(*index),
+            Count::CountIsName(word, span) => {
+                self.word("name").bytes(&range_of(reading.text, word)).span(span)
+            }
+            Count::CountIsParam(index) => self.word("arg").numeral(reading, *index, span, dot),
             Count::CountIsStar(index) => self.word("star").number(*index),
+        }
+    }
+
+    /// The number of a count, or `over` where its digits spell more than is kept.
+    fn numeral(
+        &mut self,
+        reading: &Reading<'_>,
+        number: usize,
+        span: Option<&Range<usize>>,
+        dot: usize,
+    ) -> &mut Self {
+        let span = span.expect("a count with a number has a span");
+        if is_over(reading.text, span.start - reading.quote_offset + dot) {
+            self.word("over")
+        } else {
+            self.number(number)
         }
     }
 

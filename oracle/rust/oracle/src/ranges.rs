@@ -1,8 +1,10 @@
-//! Byte ranges that the Rust does not give: where an argument's type stands in the text.
+//! What the Rust does not give and the text shows: where an argument's type stands, and which numbers
+//! are over range.
 //!
 //! The Rust keeps a type as a string. A word is part of the text and shows by its address where it
 //! stands; `?`, `x`, `X` and the empty word are constants, so their place is worked out from the
-//! parts of the argument that stand before them.
+//! parts of the argument that stand before them. Of a number above 65,535 the Rust keeps the
+//! remainder, so whether it is one is told by its digits.
 
 use parse_format::{Alignment, Argument, Count, FormatSpec, Position};
 use std::ops::Range;
@@ -29,6 +31,12 @@ pub fn type_range(text: &str, brace: usize, argument: &Argument<'_>) -> Range<us
         }
         word => range_of(text, word),
     }
+}
+
+/// Whether the digits at a byte spell a number above 65,535.
+pub fn is_over(text: &str, start: usize) -> bool {
+    let digits = text[start..digits_end(text, start)].trim_start_matches('0');
+    digits.len() > 5 || digits.parse().is_ok_and(|number: u32| number > 65_535)
 }
 
 /// Where reading stood when it found no type: after the place if there is no colon, else after

@@ -33,7 +33,7 @@ fn kinds(mode: u8, text: &str) -> Vec<u8> {
     records(mode, text, "err").iter().map(|line| kind(line).expect("a kind")).collect()
 }
 
-/// The places of the arguments of a plain text, as `next I`, `at I` or `name A B`.
+/// The places of the arguments of a plain text, as `next I`, `at I`, `over` or `name A B`.
 fn places(mode: u8, text: &str) -> Vec<String> {
     let place = |line: &String| {
         line.split(" span ")
@@ -145,6 +145,43 @@ fn spans_lack_the_quote_offset_at_the_end_of_the_text() {
     assert_eq!(records(FORMAT, "{_", "err")[0], "err 6 2..2 second - quoted - suggestion -");
     assert_eq!(records(FORMAT, "{65536", "err")[0], "err 7 2..6 second - quoted 1..6 suggestion -");
     assert_eq!(records(FORMAT, "{r#a", "err")[0], "err 4 2..4 second - quoted - suggestion 2..4");
+}
+
+/// The width and the precision of the only argument of a plain text, each as `COUNT SPAN`.
+fn counts(text: &str) -> (String, String) {
+    let arguments = records(FORMAT, text, "arg");
+    let [argument] = &arguments[..] else { panic!("{text} has one argument") };
+    let parts = argument.split(" width ").nth(1).and_then(|rest| rest.split(" type ").next());
+    let (width, precision) = parts.and_then(|both| both.split_once(" precision ")).expect("counts");
+    (width.to_owned(), precision.to_owned())
+}
+
+#[test]
+fn a_number_over_65535_is_listed_as_over_by_its_digits() {
+    assert_eq!(
+        places(FORMAT, "{65535}{65536}{131072}{00065535}{0065536}"),
+        ["at 65535", "over", "over", "at 65535", "over"]
+    );
+    assert_eq!(
+        places(FORMAT, &format!("{{{}}}{{{}7}}", "9".repeat(40), "0".repeat(40))),
+        ["over", "at 7"]
+    );
+    assert_eq!(places(ASM, "{65536:x}"), ["over"]);
+    assert_eq!(places(DIAGNOSTIC, "{ab}{65536:x}"), ["name 1 3", "over"]);
+    let pair = |width: &str, precision: &str| (width.to_owned(), precision.to_owned());
+    assert_eq!(counts("{:65536}"), pair("fixed over 3..8", "implied -"));
+    assert_eq!(counts("{:065536$}"), pair("arg over 4..10", "implied -"));
+    assert_eq!(counts("{:.65536}"), pair("implied -", "fixed over 3..9"));
+    assert_eq!(counts("{:7.99999$}"), pair("fixed 7 3..4", "arg over 4..11"));
+    assert_eq!(counts("{:0$.65535$}"), pair("arg 0 3..5", "arg 65535 5..12"));
+}
+
+#[test]
+fn kinds_7_and_14_of_large_numbers() {
+    assert_eq!(kinds(FORMAT, "{a.65536}"), [14, 2, 7]);
+    assert_eq!(kinds(FORMAT, "{0.65536}"), [2, 1]);
+    assert_eq!(kinds(FORMAT, "{065536$}"), [7, 2, 1]);
+    assert_eq!(kinds(FORMAT, "{65536:65536$.65536}"), [7, 7, 7]);
 }
 
 #[test]

@@ -2,7 +2,7 @@
 
 use oracle::exit;
 use oracle::make::every::Every;
-use oracle::make::{bench, notices, random};
+use oracle::make::{bench, notices, numbers, random};
 use std::io::{self, BufWriter, Write};
 use std::process::ExitCode;
 
@@ -11,6 +11,7 @@ usage: streams all LENGTH ALPHABET [PREFIX]   every text up to LENGTH characters
        streams random SEED COUNT [KIND..]     seeded cases; kinds: text frame lines rooms damaged
                                               refused limits
        streams notices SEED COUNT             seeded Diagnostic source literals of several lines
+       streams numbers SEED COUNT             seeded texts rich in numbers, up to 65,535 and beyond
        streams bench                          B1 to B15
 In ALPHABET and PREFIX \\n is a newline, \\t a tabulator and \\\\ a backslash.";
 
@@ -41,6 +42,9 @@ fn make(words: &[&str], output: &mut impl Write) -> Option<io::Result<()>> {
         }
         ["notices", seed, count] => {
             Some(notices::write(seed.parse().ok()?, count.parse().ok()?, output))
+        }
+        ["numbers", seed, count] => {
+            Some(numbers::write(seed.parse().ok()?, count.parse().ok()?, output))
         }
         ["bench"] => Some(bench::cases().iter().try_for_each(|draft| draft.case().write(output))),
         _ => None,

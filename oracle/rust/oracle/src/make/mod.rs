@@ -1,4 +1,4 @@
-//! The makers of cases: every short text, the bench, seeded random cases, and notices.
+//! The makers of cases: every short text, the bench, seeded random cases, notices, and numbers.
 
 pub mod bench;
 pub mod dice;
@@ -6,6 +6,7 @@ pub mod every;
 pub mod frames;
 pub mod limits;
 pub mod notices;
+pub mod numbers;
 pub mod random;
 pub mod texts;
 
