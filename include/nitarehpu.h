@@ -114,7 +114,9 @@ typedef struct nitarehpu_error {
     uint32_t kind;             /* one of the above */
     uint32_t span_start;
     uint32_t span_end;
-    uint32_t reserved[2];      /* 0 */
+    uint32_t piece;            /* how many pieces were listed when it was recorded: the number, from 0, of the placeholder in which it was
+                                  found; of kind 1 the number of all pieces */
+    uint32_t reserved_second;  /* 0 */
     uint32_t second_present;   /* 2, 3: a fill that is `}`, else the placeholder's opening brace; 10, 15: that brace */
     uint32_t second_start;
     uint32_t second_end;

@@ -74,12 +74,13 @@ fn piece(out: &mut impl Write, words: &[u32]) -> io::Result<()> {
 fn error(out: &mut impl Write, words: &[u32]) -> io::Result<()> {
     writeln!(
         out,
-        "err {} {} second {} quoted {} suggestion {}",
+        "err {} {} second {} quoted {} suggestion {} piece {}",
         words[0],
         span(&words[1..]),
         maybe(&words[5..]),
         maybe(&words[9..]),
-        maybe(&words[13..])
+        maybe(&words[13..]),
+        words[3]
     )
 }
 

@@ -88,6 +88,8 @@ pub struct ParseError {
     pub secondary: Option<Range<usize>>,
     pub quoted: Option<Range<usize>>,
     pub suggestion: Option<Range<usize>>,
+    /// How many pieces were listed when it was recorded: the number, from 0, of the placeholder in which it was found.
+    pub piece: usize,
 }
 
 fn number(word: u32) -> usize {
@@ -172,5 +174,6 @@ pub fn error(words: &[u32]) -> ParseError {
         secondary: maybe(&words[5..]),
         quoted: maybe(&words[9..]),
         suggestion: maybe(&words[13..]),
+        piece: number(words[3]),
     }
 }

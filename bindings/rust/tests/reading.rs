@@ -59,6 +59,14 @@ fn errors_of_the_front_come_first() {
 }
 
 #[test]
+fn an_error_has_the_number_of_its_piece() {
+    let pieces = |text: &str| -> Vec<_> { read(text).errors.iter().map(|error| (error.kind, error.piece)).collect() };
+    assert_eq!(pieces("{foo?}"), [(9, 0), (2, 0), (1, 1)]);
+    assert_eq!(pieces("{a.b}{c.d}"), [(13, 1), (13, 0), (2, 0), (2, 1)]);
+    assert_eq!(pieces("x{_}"), [(6, 1)]);
+}
+
+#[test]
 fn a_number_too_large_is_over_range() {
     let parsed = read("{65536}");
     assert_eq!(arguments(&parsed)[0].position, Position::ArgumentIs(Numeral::Over));

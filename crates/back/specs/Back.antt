@@ -114,6 +114,7 @@ errorFrom w =
       second = maybeSpanAt w 4;
       quoted = maybeRangeAt w 8;
       suggestion = maybeSpanAt w 12;
+      piece = word w 3;
     }
 
 -- A LIST of n records: each from the next so many numbers
@@ -179,6 +180,7 @@ pub record ErrorFits (e : ErrorRecord) : Type 0 where
   pub second : MaybeSpanFits (e .second)
   pub quoted : MaybeRangeFits (e .quoted)
   pub suggestion : MaybeSpanFits (e .suggestion)
+  pub piece : Below (e .piece)
 
 -- each of a list
 pub data All {A : Type 0} (P : A → Type 0) : List A → Type 0 where

@@ -264,7 +264,7 @@ four-fours (Four.made _ _ _ _) (Four.made _ _ _ _) (Four.made _ _ _ _) (Four.mad
     }
 
 error-fours : (e : ErrorRecord) →
-    Sixteen (errorWords e) (four (e .kind) (lowOf (e .span .start .0)) (lowOf (e .span .end .0)) 0) (spanWords 0 (e .second)) (rangeWords (e .quoted))
+    Sixteen (errorWords e) (four (e .kind) (lowOf (e .span .start .0)) (lowOf (e .span .end .0)) (lowOf (e .piece))) (spanWords 0 (e .second)) (rangeWords (e .quoted))
     (spanWords 0 (e .suggestion))
 unfolding errorWords
 error-fours e = four-fours (Four.made _ _ _ _) (span-four 0 (e .second)) (range-four (e .quoted)) (span-four 0 (e .suggestion))
@@ -282,4 +282,5 @@ error-back e h =
       second = maybe-span-back w 4 0 (e .second) (h .second) (t .second) i;
       quoted = maybe-range-back w 8 (e .quoted) (h .quoted) (t .quoted) i;
       suggestion = maybe-span-back w 12 0 (e .suggestion) (h .suggestion) (t .suggestion) i;
+      piece = (fourth w 0 (t .head) ∙ low-back (h .piece)) i;
     }

@@ -67,11 +67,12 @@ on-the-call {t} {s} {q} x z =
       counted = (λ n. d .exactly .0 (none-counted x z .0 n), λ e. none-counted x z .1 (d .exactly .1 e));
     }
 
--- What is the same but for spans: pieces without theirs, the kinds of errors, and what they quote.
+-- What is the same but for spans: pieces without theirs, the kinds of errors, what they quote, and the pieces before them.
 pub record SameButSpans (ps ps₂ : List Piece) (es es₂ : List ErrorRecord) : Type 0 where
   pub pieces : S.pieces ps ≡ S.pieces ps₂
   pub kinds : S.kinds es ≡ S.kinds es₂
   pub quotes : S.quotes es ≡ S.quotes es₂
+  pub before : S.before es ≡ S.before es₂
 
 -- TWO CALLS for one text in one mode, both done, with any styles, snippets, marks and lists: what they put into their lists is the same but for spans.
 pub same-for-any-frame : {t s s₂ : List ℕ} {q q₂ : Request} {r r₂ : Answer} {ps ps′ ps₂ ps₂′ : List Piece} {es es′ es₂ es₂′ : List ErrorRecord}
@@ -87,4 +88,5 @@ same-for-any-frame {t} {s} {s₂} {q} {q₂} x z y w e =
       pieces = rw (held-pieces x z, held-pieces y w, n) (D.same-pieces t f g m);
       kinds = rw (held-errors x z, held-errors y w, n) (D.same-kinds t f g m);
       quotes = rw (held-errors x z, held-errors y w, n) (D.same-quotes t f g m);
+      before = rw (held-errors x z, held-errors y w, n) (D.same-before t f g m);
     }

@@ -366,10 +366,10 @@ fn suggestion_of(text: &[u8], frame: Frame, fault: Fault) -> MaybeSpan
     }
 }
 
-// A fault's error record.
-pub fn record_of(text: &[u8], frame: Frame, fault: Fault) -> ErrorRecord
+// A fault's error record, where so many pieces were listed.
+pub fn record_of(text: &[u8], frame: Frame, fault: Fault, piece: usize) -> ErrorRecord
     requires { ⌜ Small (now text) frame ⌝ }
-    ensures { λ r. ⌜ r ≡ recordOf (now (text .entry)) frame fault ⌝ }
+    ensures { λ r. ⌜ r ≡ recordOf (now (text .entry)) frame piece fault ⌝ }
 {
     let span = span_of(text, frame, fault);
     let second = second_of(text, frame, fault);
@@ -381,5 +381,6 @@ pub fn record_of(text: &[u8], frame: Frame, fault: Fault) -> ErrorRecord
         second,
         quoted,
         suggestion,
+        piece,
     }
 }

@@ -8,13 +8,10 @@ use native.Mathlib.Omega.{arith}
 use lib.ListN.{length, length-append}
 use Rattle.frame.specs.Bounds.{Small}
 use Rattle.frame.specs.declared.Frame.{Frame}
-use Rattle.reading.specs.declared.Fault.{Fault}
 use Rattle.frame.specs.declared.Mode.{Mode}
-use Rattle.laws.specs.FaultLaws.{wrong-++}
-use Rattle.reading.specs.Faults.{stepSlots, wrong, faultsOf}
-use Rattle.reading.specs.Lists.{gather, piecesOf, pieces, frontOnly, backOnly, reversed, listed, records, faults, errors}
-use Rattle.laws.specs.ListLaws.{gather-append, gather-more, errors-length}
-use Rattle.reading.specs.Records.{isFront}
+use Rattle.reading.specs.Faults.{stepSlots, faultsOf, Finding}
+use Rattle.reading.specs.Lists.{gather, piecesOf, pieces, frontOnly, backOnly, reversed, listed, records, findings, found, errors}
+use Rattle.laws.specs.ListLaws.{gather-append, gather-more, parts-length, findings-more, findings-none, errors-found}
 use Rattle.reading.specs.Steps.{stepAt, onward, follow, stepsFrom, start, reading}
 use Rattle.laws.specs.StepLaws.{steps-none}
 use Rattle.laws.specs.WalkLaws.{Kept, kept-start, kept-on, steps-some, steps-on, steps-over}
@@ -27,48 +24,27 @@ use Rattle.words.specs.LaidLaws.{laid-length, laid-on, pieceWords-length}
 use Rattle.words.specs.Layout.{pieceWords, errorWords}
 use Rattle.fills.specs.Filling.{Fills}
 use Rattle.words.specs.Calls.{piecesIn, errorsIn}
-use Rattle.writing.specs.StepsWritten.{Noted, notedBy, notes, fronts, backs, StepRoom, Stepped, SteppedOn}
-use Rattle.fills.specs.Lane.{fresh, slots, Ran}
+use Rattle.writing.specs.StepsWritten.{Noted, notedBy, notes, noticed, StepRoom, Stepped, SteppedOn}
+use Rattle.fills.specs.Lane.{fresh, Ran}
 use Rattle.writing.specs.declared.Extent.{Extent}
 use Rattle.writing.specs.declared.StepWritten.{StepWritten}
 use Rattle.writing.proofs.Overlays.{laid-none, laid-first, over-again, gather-length}
-use Rattle.writing.proofs.Noting.{front-more, front-same, back-more, back-same, Left, left-first, left-on, left-room, inWords, words-more, words-none, words-length, Counted, notes-counted, notes-placed}
+use Rattle.writing.proofs.Noting.{Left, left-first, left-on, left-room, inWords, words-more, words-none, words-length, Counted, notes-counted, notes-placed}
 
--- HOW MANY: each of some faults goes to the front or to the back
-parts-length : (xs : List Fault) → length (frontOnly xs) + length (backOnly xs) ≡ length xs
-unfolding frontOnly backOnly
-parts-length [] = omega arith
-parts-length (x ∷ xs) = go (isFront x) refl (parts-length xs)
-  where
-    go : (b : Bool) → isFront x ≡ b → length (frontOnly xs) + length (backOnly xs) ≡ length xs →
-        length (frontOnly (x ∷ xs)) + length (backOnly (x ∷ xs)) ≡ suc (length xs)
-    go true e i = omega (arith, ap length (front-more x xs e), ap length (back-same x xs e))
-    go false e i = omega (arith, ap length (front-same x xs e), ap length (back-more x xs e))
-
--- what is wrong in the slots of some steps is what they found wrong
-wrong-gather : (xs : List Step) → wrong (gather stepSlots xs) ≡ gather faultsOf xs
-unfolding gather faultsOf wrong
-wrong-gather [] = refl
-wrong-gather (x ∷ xs) = wrong-++ (stepSlots x) (gather stepSlots xs) ∙ ap (λ (l : List Fault). wrong (stepSlots x) ++ l) (wrong-gather xs)
-
+-- HOW MANY: there are as many records as go to the front and to the back
 module _ (t : List ℕ) (f : Frame) (m : Mode) where
-  wrong-slots : wrong (slots t f m) ≡ faults t f m
-  unfolding slots faults
-  wrong-slots = wrong-gather (reading t f m)
+  pub parts-count : length (frontOnly (found t f m)) + length (backOnly (found t f m)) ≡ length (errors t f m)
+  parts-count = parts-length (found t f m) ∙ sym (errors-found t f m)
 
-  -- so there are as many records as go to the front and to the back
-  pub parts-count : length (fronts (slots t f m)) + length (backs (slots t f m)) ≡ length (errors t f m)
-  parts-count = parts-length (wrong (slots t f m)) ∙ ap length wrong-slots ∙ sym (errors-length t f m)
-
-  words-all : (xs : List Fault) → gather errorWords (records t f xs) ≡ inWords t f xs
+  words-all : (xs : List Finding) → gather errorWords (records t f xs) ≡ inWords t f xs
   unfolding gather records
   words-all [] = sym (words-none t f)
   words-all (x ∷ xs) = rw (words-more t f x xs, words-all xs)
 
   -- and their numbers are those of the front, the last first, and of the back
-  pub errors-words : errorsIn t f m ≡ inWords t f (reversed (fronts (slots t f m)) ++ backs (slots t f m))
+  pub errors-words : errorsIn t f m ≡ inWords t f (reversed (frontOnly (found t f m)) ++ backOnly (found t f m))
   unfolding errorsIn errors listed
-  errors-words = rw wrong-slots (words-all (listed (faults t f m)))
+  errors-words = words-all (listed (found t f m))
 
 -- PIECES: some are written, and with the rest laid after them the list is as it is to be
 pub record Laying (old : List ℕ) (all : List Piece) (new : List ℕ) (n : ℕ) (rest : List Piece) : Type 0 where
@@ -109,30 +85,35 @@ module _ {old : List ℕ} {all : List Piece} {new : List ℕ} {n : ℕ} {rest : 
           same = rw w (laid-length new (40 * n) (gather pieceWords xs) (omega arith)) ∙ g .same;
         }
 
+-- a step's findings, and those of the steps after it
+found-more : (n : ℕ) (x : Step) (xs : List Step) → findings n (x ∷ xs) ≡ noticed n (stepSlots x) ++ findings (n + length (piecesOf x)) xs
+unfolding noticed faultsOf
+found-more n x xs = findings-more n x xs
+
 -- A RUN: what is written, where reading stands, and how many turns are left
 pub record Going (t : List ℕ) (f : Frame) (m : Mode) (k : ℕ) (ps₀ es₀ ps es : List ℕ) (s : State) (r : Extent) (left : ℕ) : Type 0 where
   pub pieces : Laying ps₀ (pieces t f m) ps (r .pieces) (gather piecesOf (stepsFrom left t f m s))
-  pub errors : Left t f (fresh k es₀) (slots t f m) (notedBy r es) (gather stepSlots (stepsFrom left t f m s))
+  pub errors : Left t f (fresh k es₀) (found t f m) (notedBy r es) (findings (r .pieces) (stepsFrom left t f m s))
   pub kept : Kept left s
 
 module _ (t : List ℕ) (f : Frame) (m : Mode) where
   module _ (k : ℕ) (ps₀ es₀ : List ℕ) (room : 40 * length (pieces t f m) ≤ length ps₀) where
     -- at the start
-    pub going-first : Small t f → 16 * length (errors t f m) ≤ length es₀ → k ≤ length (fronts (slots t f m)) →
+    pub going-first : Small t f → 16 * length (errors t f m) ≤ length es₀ → k ≤ length (frontOnly (found t f m)) →
         Going t f m k ps₀ es₀ ps₀ es₀ start (record { pieces = 0; low = k; high = k; fronts = 0 }) (length t + 1)
-    unfolding pieces slots reading
+    unfolding pieces found reading
     going-first small r h =
         let c = parts-count t f m in
         record {
           pieces = laying-first ps₀ (pieces t f m);
           errors =
-              left-first t f {s = fresh k es₀} {all = slots t f m}
+              left-first t f {s = fresh k es₀} {all = found t f m}
               (record { back = omega arith; front = omega arith; count = omega arith });
           kept = kept-start t (small .text);
         }
 
     -- all is written
-    ran : {ps es : List ℕ} {r : Extent} → Laying ps₀ (pieces t f m) ps (r .pieces) [] → Left t f (fresh k es₀) (slots t f m) (notedBy r es) [] →
+    ran : {ps es : List ℕ} {r : Extent} → Laying ps₀ (pieces t f m) ps (r .pieces) [] → Left t f (fresh k es₀) (found t f m) (notedBy r es) [] →
         Ran t f m k ps₀ es₀ r ps es
     unfolding notes piecesIn
     ran p l = record { pieces = laying-done p refl .0; wrote = laying-done p refl .1; noted = l .gives }
@@ -143,7 +124,7 @@ module _ (t : List ℕ) (f : Frame) (m : Mode) where
       unfolding gather
       going-none h =
           let e = steps-none t f m left s h in
-          ran (rw e at (g .pieces)) (rw e at (g .errors))
+          ran (rw e at (g .pieces)) (rw (e, findings-none (r .pieces)) at (g .errors))
 
       -- there is room for the step where reading stands
       pub going-room : 0 < left → StepRoom (stepAt t f m s) r ps es
@@ -154,7 +135,7 @@ module _ (t : List ℕ) (f : Frame) (m : Mode) where
           record {
             pieces =
                 laying-room (g .pieces) (piecesOf x) (gather piecesOf more) (ap (gather piecesOf) e ∙ gather-more piecesOf x more) room;
-            errors = left-room t f (stepSlots x) (gather stepSlots more) (rw (e, gather-more stepSlots x more) at (g .errors));
+            errors = left-room t f (noticed (r .pieces) (stepSlots x)) (findings (r .pieces + length (piecesOf x)) more) (rw (e, found-more (r .pieces) x more) at (g .errors));
           }
 
       module _ {r′ : Extent} {ps′ es′ : List ℕ} (d : Stepped t f (stepAt t f m s) r ps es r′ ps′ es′) (more : List Step)
@@ -165,8 +146,10 @@ module _ (t : List ℕ) (f : Frame) (m : Mode) where
             laying-on (g .pieces) (piecesOf (stepAt t f m s)) (gather piecesOf more)
             (ap (gather piecesOf) e ∙ gather-more piecesOf (stepAt t f m s) more) room (d .pieces) (d .wrote)
 
-        errors-on : Left t f (fresh k es₀) (slots t f m) (notedBy r′ es′) (gather stepSlots more)
-        errors-on = left-on t f (stepSlots (stepAt t f m s)) (rw (e, gather-more stepSlots (stepAt t f m s) more) at (g .errors)) (d .noted)
+        errors-on : Left t f (fresh k es₀) (found t f m) (notedBy r′ es′) (findings (r′ .pieces) more)
+        errors-on =
+            let x = stepAt t f m s in
+            rw (d .pieces) (left-on t f (noticed (r .pieces) (stepSlots x)) (rw (e, found-more (r .pieces) x more) at (g .errors)) (d .noted))
 
       module _ {o : StepWritten} {ps′ es′ : List ℕ} (h : 0 < left) (d : SteppedOn t f m s r ps es o ps′ es′) where
         -- reading goes on
@@ -186,29 +169,29 @@ module _ (t : List ℕ) (f : Frame) (m : Mode) where
         unfolding gather
         going-over n =
             let e = steps-over t f m s refl left h (d .over n) in
-            ran (pieces-on (d .stepped) [] e) (errors-on (d .stepped) [] e)
+            ran (pieces-on (d .stepped) [] e) (rw findings-none at (errors-on (d .stepped) [] e))
 
 -- TWO RUNS
-no-faults : (xs : List Fault) → length xs ≡ 0 → xs ≡ []
+no-faults : (xs : List Finding) → length xs ≡ 0 → xs ≡ []
 no-faults [] e = refl
 no-faults (x ∷ xs) e = absurd (omega arith)
 
 module _ (t : List ℕ) (f : Frame) (m : Mode) {ps es ps₁ es₁ : List ℕ} {r : Extent} (room : 16 * length (errors t f m) ≤ length es)
     (g : Ran t f m 0 ps es r ps₁ es₁) where
-  abbrev front : List Fault
-  front = fronts (slots t f m)
+  abbrev front : List Finding
+  front = frontOnly (found t f m)
 
-  abbrev back : List Fault
-  back = backs (slots t f m)
+  abbrev back : List Finding
+  back = backOnly (found t f m)
 
   -- the first counts those of the front, and writes those of the back
   abbrev first : Noted
-  first = notes t f (fresh 0 es) (slots t f m)
+  first = notes t f (fresh 0 es) (found t f m)
 
-  first-counted : Counted t f (fresh 0 es) (slots t f m) first
+  first-counted : Counted t f (fresh 0 es) (found t f m) first
   first-counted =
       let c = parts-count t f m in
-      notes-counted t f (fresh 0 es) (slots t f m) refl (record { back = omega arith; front = omega arith; count = omega arith })
+      notes-counted t f (fresh 0 es) (found t f m) refl (record { back = omega arith; front = omega arith; count = omega arith })
 
   pub first-fronts : r .fronts ≡ length front
   first-fronts = omega (arith, ap (λ (o : Noted). o .fronts) (g .noted), first-counted .fronts)
@@ -243,7 +226,7 @@ module _ (t : List ℕ) (f : Frame) (m : Mode) {ps es ps₁ es₁ : List ℕ} {r
         let a = first-fronts in
         let z : 16 * (r .fronts - length front) ≡ 0 = omega arith in
         let nothing : es₁ ≡ laid es₁ (16 * r .fronts) (inWords t f []) = rw (words-none t f) (sym (laid-none es₁ (16 * r .fronts))) in
-        let placed = notes-placed t f es₁ [] (fresh (r .fronts) es₁) (slots t f m) nothing (omega arith) (omega arith) (omega arith) in
+        let placed = notes-placed t f es₁ [] (fresh (r .fronts) es₁) (found t f m) nothing (omega arith) (omega arith) (omega arith) in
         ap (λ (o : Noted). o .list) (d .noted) ∙ placed ∙ rw (z, errors-words t f m) (laid-first es₁ (inWords t f (reversed front ++ back)))
 
     fewer : length (inWords t f back) ≤ length (errorsIn t f m)

@@ -17,9 +17,9 @@ use Rattle.placeholder.specs.Arguments.{resolved}
 use Rattle.placeholder.specs.declared.MaybeSpan.{MaybeSpan}
 use Rattle.placeholder.specs.declared.Place.{Place}
 use Rattle.closing.specs.Recovery.{gapAt}
-use Rattle.reading.specs.Faults.{gapFault, hintFault, argumentSlots, stepSlots}
-use Rattle.reading.specs.Lists.{gather, pieces}
-use Rattle.reading.specs.Steps.{stateOf, reading}
+use Rattle.reading.specs.Faults.{gapFault, hintFault, argumentSlots}
+use Rattle.reading.specs.Lists.{pieces, found}
+use Rattle.reading.specs.Steps.{stateOf}
 use Rattle.reading.specs.Written.{over}
 use Rattle.reading.specs.declared.Fault.{Fault}
 use Rattle.reading.specs.declared.State.{State}
@@ -87,11 +87,7 @@ pub record Flawless (x : PlaceholderTold) : Type 0 where
 abbrev pub fresh : ℕ → List ℕ → Noted
 fresh k es = record { low = k; high = k; fronts = 0; list = es }
 
--- everything that a reading may have found wrong, the clean ones too
-unfoldable pub slots : List ℕ → Frame → Mode → List Fault
-slots t f m = gather stepSlots (reading t f m)
-
 pub record Ran (t : List ℕ) (f : Frame) (m : Mode) (k : ℕ) (ps es : List ℕ) (r : Extent) (ps′ es′ : List ℕ) : Type 0 where
   pub pieces : r .pieces ≡ length (pieces t f m)
   pub wrote : ps′ ≡ over (piecesIn t f m) ps
-  pub noted : notedBy r es′ ≡ notes t f (fresh k es) (slots t f m)
+  pub noted : notedBy r es′ ≡ notes t f (fresh k es) (found t f m)

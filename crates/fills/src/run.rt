@@ -8,10 +8,9 @@ use writing::Extent;
 ghost use Prim.Native.Nat.{_*_, _≤_};
 ghost use lib.ListN.{length};
 ghost use Rattle.frame.specs.Bounds.{Small};
-ghost use Rattle.reading.specs.Lists.{pieces as piecesOf, errors as errorsOf};
+ghost use Rattle.reading.specs.Lists.{pieces as piecesOf, errors as errorsOf, found, frontOnly};
 ghost use Rattle.fills.specs.Filling.{Fills};
-ghost use Rattle.writing.specs.StepsWritten.{fronts as frontsOf};
-ghost use Rattle.fills.specs.Lane.{slots, Ran};
+ghost use Rattle.fills.specs.Lane.{Ran};
 
 // How many pieces and error records a text has.
 pub struct Filled {
@@ -29,7 +28,7 @@ fn run(
     pieces: &mut [u32],
     errors: &mut [u32],
 ) -> Extent
-    requires { ⌜ Small (now text) frame × (40 * length (piecesOf (now text) frame mode) ≤ length (now pieces)) × (16 * length (errorsOf (now text) frame mode) ≤ length (now errors)) × (fronts ≤ length (frontsOf (slots (now text) frame mode))) ⌝ }
+    requires { ⌜ Small (now text) frame × (40 * length (piecesOf (now text) frame mode) ≤ length (now pieces)) × (16 * length (errorsOf (now text) frame mode) ≤ length (now errors)) × (fronts ≤ length (frontOnly (found (now text) frame mode))) ⌝ }
     ensures { λ r. ⌜ Ran (now (text .entry)) frame mode fronts (now (pieces .entry)) (now (errors .entry)) r (now (pieces .exit)) (now (errors .exit)) ⌝ }
 {
     let mut state = State {

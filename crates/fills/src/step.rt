@@ -39,7 +39,7 @@ ghost use Rattle.reading.specs.Steps.{stepAt};
 ghost use Rattle.quick.specs.Tellings.{codeSeen, fillOf, countOf, widthOf, countSpan, typeSpan, afterStar, specOf, argumentOf, blankFlaw, blanksOf, placedHint};
 ghost use Rattle.words.specs.Laid.{laid};
 ghost use Rattle.words.specs.Layout.{lowOf, four, placeWords, fillWords, spanWords, countWords, specWords, argumentWords};
-ghost use Rattle.writing.specs.StepsWritten.{notedBy, Room, Notes, BackRoom, BackNotes, StepRoom, SteppedOn};
+ghost use Rattle.writing.specs.StepsWritten.{notedBy, noticed, Room, Notes, BackRoom, BackNotes, StepRoom, SteppedOn};
 ghost use Rattle.fills.specs.Lane.{Sound, placeOf, toldHead, nameWords, toldState, Flawless, whyTold, missingTold, toldSlots};
 
 // The place of what is told, which starts at `at`.
@@ -329,17 +329,18 @@ fn put_blank(
     blank: bool,
     from: usize,
     to: usize,
+    piece: usize,
     errors: &mut [u32],
     high: usize,
 ) -> usize
-    requires { ⌜ Small (now text) frame × BackRoom high (now errors) (flawFault (blankFlaw blank from to) ∷ []) ⌝ }
-    ensures { λ r. ⌜ BackNotes (now (text .entry)) frame high (now (errors .entry)) (flawFault (blankFlaw blank from to) ∷ []) r (now (errors .exit)) ⌝ }
+    requires { ⌜ Small (now text) frame × BackRoom high (now errors) (noticed piece (flawFault (blankFlaw blank from to) ∷ [])) ⌝ }
+    ensures { λ r. ⌜ BackNotes (now (text .entry)) frame high (now (errors .entry)) (noticed piece (flawFault (blankFlaw blank from to) ∷ [])) r (now (errors .exit)) ⌝ }
 {
     if !blank {
         return high;
     }
     let span = frame::span_between(text, frame, TextPlace(from), TextPlace(to));
-    put_bare_error(errors, high, 6, span);
+    put_bare_error(errors, high, 6, span, piece);
     high + 1
 }
 
@@ -349,24 +350,35 @@ fn put_blanks(
     frame: Frame,
     at: usize,
     told: PlaceholderTold,
+    piece: usize,
     errors: &mut [u32],
     high: usize,
 ) -> usize
-    requires { ⌜ Small (now text) frame × BackRoom high (now errors) (argumentSlots (blanksOf at told)) ⌝ }
-    ensures { λ r. ⌜ BackNotes (now (text .entry)) frame high (now (errors .entry)) (argumentSlots (blanksOf at told)) r (now (errors .exit)) ⌝ }
+    requires { ⌜ Small (now text) frame × BackRoom high (now errors) (noticed piece (argumentSlots (blanksOf at told))) ⌝ }
+    ensures { λ r. ⌜ BackNotes (now (text .entry)) frame high (now (errors .entry)) (noticed piece (argumentSlots (blanksOf at told))) r (now (errors .exit)) ⌝ }
 {
     let place = told.place;
     let spec = told.spec;
     let width = spec.width;
     let precision = spec.precision;
     let typed = spec.typed;
-    let high = put_blank(text, frame, place.blank, at, place.end, &mut *errors, high);
+    let high = put_blank(
+        text,
+        frame,
+        place.blank,
+        at,
+        place.end,
+        piece,
+        &mut *errors,
+        high,
+    );
     let high = put_blank(
         text,
         frame,
         width.blank,
         spec.from,
         spec.word,
+        piece,
         &mut *errors,
         high,
     );
@@ -376,6 +388,7 @@ fn put_blanks(
         typed.blank,
         precision.end,
         typed.end,
+        piece,
         errors,
         high,
     )
@@ -422,7 +435,7 @@ fn put_missing(
     errors: &mut [u32],
     extent: Extent,
 ) -> Extent
-    requires { ⌜ Small (now text) frame × (told .to ≤ 65535) × Room (notedBy extent (now errors)) (missingTold (now text) brace told) ⌝ }
+    requires { ⌜ Small (now text) frame × (told .to ≤ 65535) × Room (notedBy extent (now errors)) (noticed (extent .pieces) (missingTold (now text) brace told)) ⌝ }
     ensures { λ r. ⌜ Notes (now (text .entry)) frame extent (now (errors .entry)) (missingTold (now (text .entry)) brace told) r (now (errors .exit)) ⌝ }
 {
     let sign = told.hint;
@@ -467,13 +480,21 @@ fn put_wrongs(
     errors: &mut [u32],
     extent: Extent,
 ) -> Extent
-    requires { ⌜ Small (now text) frame × (brace < 65535) × (told .to ≤ 65535) × Room (notedBy extent (now errors)) (toldSlots (now text) brace told) ⌝ }
+    requires { ⌜ Small (now text) frame × (brace < 65535) × (told .to ≤ 65535) × Room (notedBy extent (now errors)) (noticed (extent .pieces) (toldSlots (now text) brace told)) ⌝ }
     ensures { λ r. ⌜ Notes (now (text .entry)) frame extent (now (errors .entry)) (toldSlots (now (text .entry)) brace told) r (now (errors .exit)) ⌝ }
 {
     if is_flawless(told) {
         return extent;
     }
-    let high = put_blanks(text, frame, brace + 1, told, &mut *errors, extent.high);
+    let high = put_blanks(
+        text,
+        frame,
+        brace + 1,
+        told,
+        extent.pieces,
+        &mut *errors,
+        extent.high,
+    );
     let after = Extent {
         pieces: extent.pieces,
         low: extent.low,
@@ -552,7 +573,7 @@ fn write_brace(
                 return StepWritten {
                     more: true,
                     state: after_told(state, told),
-                    extent: put_wrongs(text, frame, i, told, errors, one_more(extent)),
+                    extent: one_more(put_wrongs(text, frame, i, told, errors, extent)),
                 };
             }
             write_step(text, frame, mode, state, pieces, errors, extent)

@@ -238,7 +238,7 @@ not-held h = let e = h .0 .brace in omega arith
 
 -- `}`: a stop at a lone `}` that is told, and not one that is not
 abbrev lone : ErrorRecord
-lone = record { kind = 1; span = span 1 2; second = MaybeSpan.Absent; quoted = MaybeRange.Absent; suggestion = MaybeSpan.Absent }
+lone = record { kind = 1; span = span 1 2; second = MaybeSpan.Absent; quoted = MaybeRange.Absent; suggestion = MaybeSpan.Absent; piece = 0 }
 
 is-lone : Lone (0x7D ∷ []) 0
 is-lone = (refl, λ e. omega arith)

@@ -3,6 +3,7 @@
 use mathlib.Core.Path.{_≡_}
 use mathlib.Core.Logic.{_≢_, _⊎_, _↔_}
 use mathlib.Core.List.{List, [], _∷_}
+use Prim.Native.Char.{code}
 use Prim.Native.Nat.{ℕ, _+_, _<_}
 use lib.ListN.{length, getD}
 use Rattle.reading.specs.declared.Piece.{Piece}
@@ -31,7 +32,7 @@ pub record View (t : List ℕ) (p a b : ℕ) : Type 0 where
 -- an argument's range from byte a to byte b: it starts there, at a `{`, and is not empty
 pub record Held (t : List ℕ) (p a b : ℕ) : Type 0 where
   pub begins : a ≡ p
-  pub brace : byteAt t p ≡ 0x7B
+  pub brace : byteAt t p ≡ code "{"
   pub some : p < b
 
 -- pieces cover the bytes from p to q, each once and in order
@@ -42,7 +43,7 @@ Tiles t p (Piece.Placeholder y ∷ xs) q = Held t p (y .range .start .0) (y .ran
 
 -- a `}` stands at byte p, and no `}` after it
 abbrev pub Lone : List ℕ → ℕ → Type 0
-Lone t p = (byteAt t p ≡ 0x7D) × (byteAt t (p + 1) ≢ 0x7D)
+Lone t p = (byteAt t p ≡ code "}") × (byteAt t (p + 1) ≢ code "}")
 
 -- an error of a kind is recorded
 abbrev pub Recorded : ℕ → List ErrorRecord → Type 0

@@ -20,7 +20,7 @@ use Rattle.grammar.specs.Device.Readings.{has-reading, no-error, its-pie
 use Rattle.grammar.specs.Device.Numbers.{numbered}
 use Rattle.grammar.specs.Device.Within.{none-over}
 use Rattle.grammar.specs.Device.Covering.{covered}
-use Rattle.grammar.specs.Device.AnyFrame.{pieces-any, kinds-any, quotes-any}
+use Rattle.grammar.specs.Device.AnyFrame.{pieces-any, kinds-any, quotes-any, numbers-any}
 
 -- THE THEOREM, for a text that is UTF-8 as table 3-7 of the Unicode Standard has it (its cover holds of any bytes)
 pub demand : (text : List ℕ) (frame : Frame) (mode : Mode) → WellFormed text →
@@ -55,7 +55,7 @@ all-within {quote = quote} d e =
     let r = d .exactly .0 e in
     rw (d .the-pieces (r .0) (r .1)) (none-over quote 0 0 (r .0))
 
--- Style, snippet and mark change neither the pieces nor the errors' kinds nor what they quote: spans alone.
+-- Style, snippet and mark change neither the pieces nor the errors' kinds, what they quote and the pieces before them: spans alone.
 pub same-pieces : (text : List ℕ) (frame other : Frame) (mode : Mode) → S.pieces (pieces text frame mode) ≡ S.pieces (pieces text other mode)
 same-pieces text frame other mode = pieces-any text frame other mode
 
@@ -64,3 +64,6 @@ same-kinds text frame other mode = kinds-any text frame other mode
 
 pub same-quotes : (text : List ℕ) (frame other : Frame) (mode : Mode) → S.quotes (errors text frame mode) ≡ S.quotes (errors text other mode)
 same-quotes text frame other mode = quotes-any text frame other mode
+
+pub same-before : (text : List ℕ) (frame other : Frame) (mode : Mode) → S.before (errors text frame mode) ≡ S.before (errors text other mode)
+same-before text frame other mode = numbers-any text frame other mode

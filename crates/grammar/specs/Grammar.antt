@@ -4,6 +4,7 @@ use mathlib.Core.Path.{_≡_}
 use mathlib.Core.Logic.{_≢_, _⊎_}
 use mathlib.Core.Bool.{Bool, true, false}
 use mathlib.Core.List.{List, [], _∷_, _++_}
+use Prim.Native.Char.{code}
 use Prim.Native.Nat.{ℕ, _+_, _-_, _*_, _≤_}
 use Rattle.letters.specs.Questions.{isSpace, isStart, isContinue}
 use Rattle.utf8.specs.Encode.{encode}
@@ -28,10 +29,10 @@ Continue c = isContinue c ≡ true
 
 -- an ASCII digit
 abbrev pub Digit : ℕ → Type 0
-Digit c = (0x30 ≤ c) × (c ≤ 0x39)
+Digit c = (code "0" ≤ c) × (c ≤ code "9")
 
 abbrev pub Brace : ℕ → Type 0
-Brace c = (c ≡ 0x7B) ⊎ (c ≡ 0x7D)
+Brace c = (c ≡ code "{") ⊎ (c ≡ code "}")
 
 -- no brace
 abbrev pub Plain : ℕ → Type 0
@@ -47,7 +48,7 @@ NextBrace (c ∷ t) = Brace c
 -- what digits come to after the number n
 abbrev pub value : ℕ → List ℕ → ℕ
 value n [] = n
-value n (d ∷ ds) = value (n * 10 + (d - 0x30)) ds
+value n (d ∷ ds) = value (n * 10 + (d - code "0")) ds
 
 -- "A number is one or more ASCII digits." "In this grammar no number passes 65,535" (R3.7, R4.5)
 pub record Number (d : ℕ) (ds : List ℕ) : Type 0 where
@@ -60,7 +61,7 @@ pub record Number (d : ℕ) (ds : List ℕ) : Type 0 where
 pub record Word (c : ℕ) (r : List ℕ) : Type 0 where
   pub first : Start c
   pub others : All Continue r
-  pub named : c ∷ r ≢ 0x5F ∷ []
+  pub named : c ∷ r ≢ code "_" ∷ []
 
 -- PLACE: "A place is a number, a word, or nothing." (R4.5)
 pub data Position : Type 0 where
@@ -82,9 +83,9 @@ pub data Alignment : Type 0 where
   left right center : Alignment
 
 abbrev pub alignChar : Alignment → ℕ
-alignChar left = 0x3C
-alignChar right = 0x3E
-alignChar center = 0x5E
+alignChar left = code "<"
+alignChar right = code ">"
+alignChar center = code "^"
 
 -- (R4.7)
 pub data Lead : Type 0 where
@@ -103,8 +104,8 @@ pub data Signed : Type 0 where
 
 abbrev pub writtenSign : Signed → List ℕ → List ℕ
 writtenSign unsigned t = t
-writtenSign plus t = 0x2B ∷ t
-writtenSign minus t = 0x2D ∷ t
+writtenSign plus t = code "+" ∷ t
+writtenSign minus t = code "-" ∷ t
 
 -- a flag, `#` or `0`, that stands or not
 abbrev pub writtenFlag : ℕ → Bool → List ℕ → List ℕ
@@ -119,8 +120,8 @@ pub data Width : Type 0 where
 abbrev pub writtenWidth : Width → List ℕ → List ℕ
 writtenWidth implied t = t
 writtenWidth (fixed d ds) t = d ∷ (ds ++ t)
-writtenWidth (byArgument d ds) t = d ∷ (ds ++ (0x24 ∷ t))
-writtenWidth (byName c r) t = c ∷ (r ++ (0x24 ∷ t))
+writtenWidth (byArgument d ds) t = d ∷ (ds ++ (code "$" ∷ t))
+writtenWidth (byName c r) t = c ∷ (r ++ (code "$" ∷ t))
 
 abbrev pub FitsWidth : Width → Type 0
 FitsWidth implied = Unit {0}
@@ -136,8 +137,8 @@ pub data Precision : Type 0 where
 
 abbrev pub writtenPrecision : Precision → List ℕ → List ℕ
 writtenPrecision undotted t = t
-writtenPrecision star t = 0x2E ∷ 0x2A ∷ t
-writtenPrecision (dot w) t = 0x2E ∷ writtenWidth w t
+writtenPrecision star t = code "." ∷ code "*" ∷ t
+writtenPrecision (dot w) t = code "." ∷ writtenWidth w t
 
 abbrev pub FitsPrecision : Precision → Type 0
 FitsPrecision undotted = Unit {0}
@@ -149,8 +150,8 @@ pub data Letter : Type 0 where
   lower upper : Letter
 
 abbrev pub letterChar : Letter → ℕ
-letterChar lower = 0x78
-letterChar upper = 0x58
+letterChar lower = code "x"
+letterChar upper = code "X"
 
 -- (R4.10)
 pub data Kind : Type 0 where
@@ -161,8 +162,8 @@ pub data Kind : Type 0 where
 
 abbrev pub writtenKind : Kind → List ℕ → List ℕ
 writtenKind untyped t = t
-writtenKind debug t = 0x3F ∷ t
-writtenKind (hexDebug x) t = letterChar x ∷ 0x3F ∷ t
+writtenKind debug t = code "?" ∷ t
+writtenKind (hexDebug x) t = letterChar x ∷ code "?" ∷ t
 writtenKind (hex x) t = letterChar x ∷ t
 writtenKind (typed c r) t = c ∷ (r ++ t)
 
@@ -189,18 +190,18 @@ fromWidth f t = writtenWidth (f .width) (writtenPrecision (f .precision) (writte
 
 -- from the flag `0`'s place on
 abbrev pub fromZero : FormatSpec → List ℕ → List ℕ
-fromZero f t = writtenFlag 0x30 (f .zero) (fromWidth f t)
+fromZero f t = writtenFlag (code "0") (f .zero) (fromWidth f t)
 
 abbrev pub writtenFormat : FormatSpec → List ℕ → List ℕ
-writtenFormat f t = writtenLead (f .lead) (writtenSign (f .sign) (writtenFlag 0x23 (f .alternate) (fromZero f t)))
+writtenFormat f t = writtenLead (f .lead) (writtenSign (f .sign) (writtenFlag (code "#") (f .alternate) (fromZero f t)))
 
 pub record FitsFormat (f : FormatSpec) (t : List ℕ) : Type 0 where
   -- "if the second character after the colon is an align, the first is the fill, even a brace"
   pub choice1 : (c : ℕ) (a : Alignment) (u : List ℕ) → writtenFormat f t ≡ c ∷ alignChar a ∷ u → f .lead ≡ filled c a
   -- "a `0` at the flag's place is the flag unless `$` follows directly"
-  pub choice2 : (u : List ℕ) → fromZero f t ≡ 0x30 ∷ u → ((v : List ℕ) → u ≢ 0x24 ∷ v) → f .zero ≡ true
+  pub choice2 : (u : List ℕ) → fromZero f t ≡ code "0" ∷ u → ((v : List ℕ) → u ≢ code "$" ∷ v) → f .zero ≡ true
   -- "then `0$` is the width"
-  pub choice2$ : (v : List ℕ) → fromZero f t ≡ 0x30 ∷ 0x24 ∷ v → f .width ≡ byArgument 0x30 []
+  pub choice2$ : (v : List ℕ) → fromZero f t ≡ code "0" ∷ code "$" ∷ v → f .width ≡ byArgument (code "0") []
   pub width : FitsWidth (f .width)
   pub precision : FitsPrecision (f .precision)
   pub kind : FitsKind (f .kind)
@@ -241,7 +242,7 @@ pub data Tail : Type 0 where
 
 abbrev pub writtenTail : Tail → List ℕ → List ℕ
 writtenTail bare t = t
-writtenTail (colon s w) t = 0x3A ∷ writtenSpec s (w ++ t)
+writtenTail (colon s w) t = code ":" ∷ writtenSpec s (w ++ t)
 
 abbrev pub FitsTail : Mode → Tail → List ℕ → Type 0
 FitsTail m bare t = Unit {0}
@@ -269,16 +270,16 @@ pub data Element : Type 0 where
 
 abbrev pub written : Element → List ℕ → List ℕ
 written (run c r) t = c ∷ (r ++ t)
-written (opened r) t = 0x7B ∷ 0x7B ∷ (r ++ t)
-written (closed r) t = 0x7D ∷ 0x7D ∷ (r ++ t)
-written (placeholder a) t = 0x7B ∷ writtenInside a (0x7D ∷ t)
+written (opened r) t = code "{" ∷ code "{" ∷ (r ++ t)
+written (closed r) t = code "}" ∷ code "}" ∷ (r ++ t)
+written (placeholder a) t = code "{" ∷ writtenInside a (code "}" ∷ t)
 
 -- "Each run goes to the next brace or the end." (R4.2)
 abbrev pub Fits : Mode → Element → List ℕ → Type 0
 Fits m (run c r) t = Plain c × All Plain r × NextBrace t
 Fits m (opened r) t = All Plain r × NextBrace t
 Fits m (closed r) t = All Plain r × NextBrace t
-Fits m (placeholder a) t = FitsInside m a (0x7D ∷ t)
+Fits m (placeholder a) t = FitsInside m a (code "}" ∷ t)
 
 abbrev pub writtenAll : List Element → List ℕ → List ℕ
 writtenAll [] t = t

@@ -2,6 +2,7 @@
 -- number and the quote offset. Rests on Grammar and on the records that the reader declares; no reader is named here.
 use mathlib.Core.Bool.{false}
 use mathlib.Core.List.{List, [], _∷_}
+use Prim.Native.Char.{code}
 use Prim.Native.Nat.{ℕ, _+_}
 use lib.ListN.{length}
 use Rattle.utf8.specs.Encode.{encode}
@@ -50,7 +51,7 @@ tailAt p a = p + 1 + size (writtenPosition (a .position) (a .space))
 
 -- where the width, the precision and the type of a Format spec at byte p are written
 abbrev pub widthAt : ℕ → FormatSpec → ℕ
-widthAt p f = p + size (writtenLead (f .lead) (writtenSign (f .sign) (writtenFlag 0x23 (f .alternate) (writtenFlag 0x30 (f .zero) []))))
+widthAt p f = p + size (writtenLead (f .lead) (writtenSign (f .sign) (writtenFlag (code "#") (f .alternate) (writtenFlag (code "0") (f .zero) []))))
 
 abbrev pub precisionAt : ℕ → FormatSpec → ℕ
 precisionAt p f = widthAt p f + size (writtenWidth (f .width) [])

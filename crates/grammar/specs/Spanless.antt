@@ -59,9 +59,12 @@ piece (Piece.Placeholder x) = Piece.Placeholder (argument x)
 abbrev pub pieces : List Piece → List Piece
 pieces xs = map piece xs
 
--- the kinds of errors, and what each quotes
+-- the kinds of errors, what each quotes, and how many pieces were listed before it
 abbrev pub kinds : List ErrorRecord → List ℕ
 kinds xs = map (λ x. x .kind) xs
 
 abbrev pub quotes : List ErrorRecord → List MaybeRange
 quotes xs = map (λ x. x .quoted) xs
+
+abbrev pub before : List ErrorRecord → List ℕ
+before xs = map (λ x. x .piece) xs

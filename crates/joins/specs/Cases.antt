@@ -37,9 +37,9 @@ use Rattle.closing.specs.Defaults.{noMarks, noCounts, isDefault, isIdentifier}
 use Rattle.closing.specs.Recovery.{gapAt, fieldRead, recoverRead}
 use Rattle.closing.specs.Wholes.{missingRead, placeholderRead}
 use Rattle.reading.specs.Steps.{afterOpen, afterClose, stepAt, stepsFrom, reading}
-use Rattle.reading.specs.Faults.{argumentSlots, missingSlots, closingSlots, stepSlots, wrong, faultsOf}
+use Rattle.reading.specs.Faults.{argumentSlots, missingSlots, closingSlots, stepSlots, wrong, faultsOf, marked}
 use Rattle.reading.specs.Records.{recordOf}
-use Rattle.reading.specs.Lists.{gather, pieces, frontOnly, backOnly, reversed, listed, records, faults, errors}
+use Rattle.reading.specs.Lists.{gather, pieces, frontOnly, backOnly, reversed, listed, records, findings, found, errors}
 use Rattle.reading.specs.Cases.{bytesOf, span, some, none, range, lit, arg, named, spec, typed, empty}
 use Rattle.reading.specs.declared.ErrorRecord.{ErrorRecord}
 use Rattle.reading.specs.declared.Piece.{Piece}
@@ -170,7 +170,7 @@ unfolding
     countRead isR rawPlace wordPlace placeRead isAlign fillRead alignRead signRead plainWidth widthRead afterDot precisionRead hexType
     isHexOrHash debugType wordType typeRead formatRead diagnosticType specRead argumentRead noMarks noCounts isDefault isIdentifier gapAt
     fieldRead recoverRead missingRead placeholderRead afterOpen afterClose stepAt stepsFrom reading argumentSlots
-    missingSlots closingSlots stepSlots wrong faultsOf recordOf gather pieces frontOnly backOnly reversed listed records faults errors
+    missingSlots closingSlots stepSlots wrong faultsOf marked recordOf gather pieces frontOnly backOnly reversed listed records findings found errors
 reads = (refl, refl, refl, refl, refl, refl, refl)
 
 -- OUTSIDE THE PREMISE: `{:}` with `<`, `>` or `^`

@@ -11,11 +11,13 @@ use Rattle.frame.specs.Places.{snippet, spanOf}
 use Rattle.frame.specs.declared.Frame.{Frame}
 use Rattle.frame.specs.declared.Span.{Span}
 use Rattle.reading.specs.declared.Fault.{Fault}
+use Rattle.reading.specs.Faults.{faultsOf, Finding, marked}
 use Rattle.frame.specs.declared.Mode.{Mode}
 use Rattle.reading.specs.Records.{isFront}
 use Rattle.reading.specs.Lines.{charsIn, newlines, endedLines, lineStart}
 use Rattle.laws.specs.LineLaws.{by-test, ended-length}
-use Rattle.reading.specs.Lists.{gather, frontOnly, backOnly, reversed, listed, records, faults, errors, places, lines, textsOf, literalChars}
+use Rattle.reading.specs.Lists.{gather, piecesOf, frontOnly, backOnly, reversed, listed, records, findings, found, errors, places, lines, textsOf, literalChars}
+use Rattle.reading.specs.Steps.{reading}
 use Rattle.reading.specs.Written.{pairs}
 use Rattle.reading.specs.declared.Step.{Step}
 
@@ -36,36 +38,97 @@ module _ {A B : Type 0} (g : A → List B) where
   unfolding gather
   gather-one x = append-nil (g x)
 
--- each fault is put at the front or at the back
-parts-length : (xs : List Fault) → length (frontOnly xs) + length (backOnly xs) ≡ length xs
+-- each finding is put at the front or at the back
+pub parts-length : (xs : List Finding) → length (frontOnly xs) + length (backOnly xs) ≡ length xs
 unfolding frontOnly backOnly pick
 parts-length [] = omega arith
 parts-length (x ∷ xs) =
     let front = frontOnly xs in
     let back = backOnly xs in
     let same = parts-length xs in
-    by-test (λ b. length (pick b (x ∷ front) front) + length (pick b back (x ∷ back)) ≡ suc (length xs)) (omega arith) (omega arith) (isFront x)
+    by-test (λ b. length (pick b (x ∷ front) front) + length (pick b back (x ∷ back)) ≡ suc (length xs)) (omega arith) (omega arith) (isFront (x .fault))
 
-reversed-length : (xs : List Fault) → length (reversed xs) ≡ length xs
+reversed-length : (xs : List Finding) → length (reversed xs) ≡ length xs
 unfolding reversed
 reversed-length [] = refl
 reversed-length (x ∷ xs) = omega (arith, length-append (reversed xs) (x ∷ []), reversed-length xs)
 
 -- so as many are listed as there are
-pub listed-length : (xs : List Fault) → length (listed xs) ≡ length xs
+pub listed-length : (xs : List Finding) → length (listed xs) ≡ length xs
 unfolding listed
 listed-length xs = omega (arith, length-append (reversed (frontOnly xs)) (backOnly xs), reversed-length (frontOnly xs), parts-length xs)
 
 -- each has one record
-pub records-length : (t : List ℕ) (f : Frame) (xs : List Fault) → length (records t f xs) ≡ length xs
+pub records-length : (t : List ℕ) (f : Frame) (xs : List Finding) → length (records t f xs) ≡ length xs
 unfolding records
 records-length t f [] = refl
 records-length t f (x ∷ xs) = omega (arith, records-length t f xs)
 
--- so there are as many records as faults
-pub errors-length : (t : List ℕ) (f : Frame) (m : Mode) → length (errors t f m) ≡ length (faults t f m)
+-- faults that are marked are as many, one list after another
+pub marked-length : (n : ℕ) (xs : List Fault) → length (marked n xs) ≡ length xs
+unfolding marked
+marked-length n [] = refl
+marked-length n (x ∷ xs) = omega (arith, marked-length n xs)
+
+pub marked-append : (n : ℕ) (xs ys : List Fault) → marked n (xs ++ ys) ≡ marked n xs ++ marked n ys
+unfolding marked
+marked-append n [] ys = refl
+marked-append n (x ∷ xs) ys = rw (marked-append n xs ys)
+
+-- a step's findings, and those of the steps after it
+pub findings-more : (n : ℕ) (x : Step) (xs : List Step) →
+    findings n (x ∷ xs) ≡ marked n (faultsOf x) ++ findings (n + length (piecesOf x)) xs
+unfolding findings
+findings-more n x xs = refl
+
+-- no step, no finding
+pub findings-none : (n : ℕ) → findings n [] ≡ []
+unfolding findings
+findings-none n = refl
+
+-- there is one for each fault
+pub findings-length : (n : ℕ) (xs : List Step) → length (findings n xs) ≡ length (gather faultsOf xs)
+unfolding findings gather
+findings-length n [] = refl
+findings-length n (x ∷ xs) =
+    omega (
+      arith,
+      length-append (marked n (faultsOf x)) (findings (n + length (piecesOf x)) xs),
+      length-append (faultsOf x) (gather faultsOf xs),
+      marked-length n (faultsOf x),
+      findings-length (n + length (piecesOf x)) xs,
+    )
+
+-- the faults of some findings, without their numbers
+abbrev pub faultsIn : List Finding → List Fault
+faultsIn [] = []
+faultsIn (x ∷ xs) = x .fault ∷ faultsIn xs
+
+pub faults-append : (xs ys : List Finding) → faultsIn (xs ++ ys) ≡ faultsIn xs ++ faultsIn ys
+faults-append [] ys = refl
+faults-append (x ∷ xs) ys = rw (faults-append xs ys)
+
+pub marked-faults : (n : ℕ) (xs : List Fault) → faultsIn (marked n xs) ≡ xs
+unfolding marked
+marked-faults n [] = refl
+marked-faults n (x ∷ xs) = rw (marked-faults n xs)
+
+-- are what the steps found wrong
+pub found-faults : (n : ℕ) (xs : List Step) → faultsIn (findings n xs) ≡ gather faultsOf xs
+unfolding findings gather
+found-faults n [] = refl
+found-faults n (x ∷ xs) =
+    faults-append (marked n (faultsOf x)) (findings (n + length (piecesOf x)) xs)
+    ∙ rw (marked-faults n (faultsOf x), found-faults (n + length (piecesOf x)) xs)
+
+-- so there are as many records as findings, and as faults
+pub errors-found : (t : List ℕ) (f : Frame) (m : Mode) → length (errors t f m) ≡ length (found t f m)
 unfolding errors
-errors-length t f m = records-length t f (listed (faults t f m)) ∙ listed-length (faults t f m)
+errors-found t f m = records-length t f (listed (found t f m)) ∙ listed-length (found t f m)
+
+pub errors-length : (t : List ℕ) (f : Frame) (m : Mode) → length (errors t f m) ≡ length (gather faultsOf (reading t f m))
+unfolding found
+errors-length t f m = errors-found t f m ∙ findings-length 0 (reading t f m)
 
 -- the literal text of a step, and of those after it
 pub literal-more : (t : List ℕ) (x : Step) (xs : List Step) → literalChars t (x ∷ xs) ≡ gather (charsIn t) (textsOf x) ++ literalChars t xs

@@ -111,23 +111,23 @@ quotedOf t (Fault.Field a b) = MaybeRange.Absent
 quotedOf t (Fault.TupleIndex a b) = MaybeRange.Absent
 quotedOf t (Fault.Comma p brace) = MaybeRange.Absent
 
--- a fault's record is these five
-pub record-parts : (t : List ℕ) (f : Frame) (x : Fault) →
-    recordOf t f x ≡ errorOf (kindOf x) (spanOfFault t f x) (secondOf t f x) (quotedOf t x) (suggestionOf t f x)
+-- a fault's record is these five, and the number of pieces already listed
+pub record-parts : (t : List ℕ) (f : Frame) (n : ℕ) (x : Fault) →
+    recordOf t f n x ≡ errorOf (kindOf x) (spanOfFault t f x) (secondOf t f x) (quotedOf t x) (suggestionOf t f x) n
 unfolding recordOf
-record-parts t f Fault.Clean = refl
-record-parts t f (Fault.Unmatched p) = refl
-record-parts t f (Fault.Expected p why) = refl
-record-parts t f (Fault.Unclosed why) = refl
-record-parts t f (Fault.RawName r) = refl
-record-parts t f (Fault.AfterDebug p) = refl
-record-parts t f (Fault.Underscore r) = refl
-record-parts t f (Fault.TooLarge r) = refl
-record-parts t f (Fault.DebugFirst p r) = refl
-record-parts t f (Fault.NoColon p) = refl
-record-parts t f (Fault.Equals p brace) = refl
-record-parts t f (Fault.Misplaced p) = refl
-record-parts t f (Fault.PlusFirst p) = refl
-record-parts t f (Fault.Field a b) = refl
-record-parts t f (Fault.TupleIndex a b) = refl
-record-parts t f (Fault.Comma p brace) = refl
+record-parts t f n Fault.Clean = refl
+record-parts t f n (Fault.Unmatched p) = refl
+record-parts t f n (Fault.Expected p why) = refl
+record-parts t f n (Fault.Unclosed why) = refl
+record-parts t f n (Fault.RawName r) = refl
+record-parts t f n (Fault.AfterDebug p) = refl
+record-parts t f n (Fault.Underscore r) = refl
+record-parts t f n (Fault.TooLarge r) = refl
+record-parts t f n (Fault.DebugFirst p r) = refl
+record-parts t f n (Fault.NoColon p) = refl
+record-parts t f n (Fault.Equals p brace) = refl
+record-parts t f n (Fault.Misplaced p) = refl
+record-parts t f n (Fault.PlusFirst p) = refl
+record-parts t f n (Fault.Field a b) = refl
+record-parts t f n (Fault.TupleIndex a b) = refl
+record-parts t f n (Fault.Comma p brace) = refl

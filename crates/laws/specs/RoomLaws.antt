@@ -23,7 +23,7 @@ use Rattle.closing.specs.declared.whole.Closing.{Closing}
 use Rattle.reading.specs.Steps.{afterOpen, afterClose, stepAt, onward, reading}
 use Rattle.laws.specs.StepLaws.{step-later, step-on, Run, reading-run}
 use Rattle.reading.specs.Faults.{flawFault, gapFault, hintFault, argumentSlots, missingSlots, closingSlots, stepSlots, wrong, faultsOf}
-use Rattle.reading.specs.Lists.{gather, piecesOf, pieces, faults, errors}
+use Rattle.reading.specs.Lists.{gather, piecesOf, pieces, errors}
 use Rattle.laws.specs.ListLaws.{gather-more, gather-one, errors-length}
 use Rattle.laws.specs.PaidLaws.{held, said, heldIn, heldOn, heldAt, placeholder-paid}
 use Rattle.reading.specs.declared.Fault.{Fault}
@@ -123,6 +123,13 @@ faults-held (Step.Stop p) = omega arith
 faults-held (Step.Literal r) = omega (arith, wrong-none)
 faults-held (Step.Placeholder p) = omega (arith, wrong-argument (p .flaws) (closingSlots (p .argument .range .start) (p .closing)), wrong-closing (p .argument .range .start) (p .closing))
 
+-- a step has one piece at most
+pub one-piece : (x : Step) → length (piecesOf x) ≤ 1
+one-piece Step.End = omega arith
+one-piece (Step.Stop p) = omega arith
+one-piece (Step.Literal r) = omega arith
+one-piece (Step.Placeholder p) = omega arith
+
 -- where reading goes on; where it is over, the end of the text
 abbrev goesTo : List ℕ → Onward → ℕ
 goesTo t Onward.Over = length t
@@ -201,5 +208,4 @@ module _ (t : List ℕ) (f : Frame) (m : Mode) where
 
   -- nor more errors
   pub few-errors : length (errors t f m) ≤ length t
-  unfolding faults
   few-errors = omega (arith, errors-length t f m, few faultsOf faults-paid)

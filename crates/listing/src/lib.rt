@@ -266,19 +266,25 @@ pub fn piece(out: &mut [u8], used: usize, p: Piece) -> usize {
     }
 }
 
+// An error record's kind and span.
+fn error_head(out: &mut [u8], used: usize, kind: u8, at: Span) -> usize {
+    let n = labelled(out, used, b"err ", kind as usize);
+    let n = byte(out, n, b' ');
+    span(out, n, at)
+}
+
 // An error record's line.
 pub fn error(out: &mut [u8], used: usize, e: ErrorRecord) -> usize {
     let at = e.span;
     let second = e.second;
     let quoted = e.quoted;
     let suggestion = e.suggestion;
-    let n = labelled(out, used, b"err ", e.kind as usize);
-    let n = byte(out, n, b' ');
-    let n = span(out, n, at);
+    let n = error_head(out, used, e.kind, at);
     let n = labelled_span(out, n, b" second ", second);
     let n = words(out, n, b" quoted ");
     let n = maybe_range(out, n, quoted);
     let n = labelled_span(out, n, b" suggestion ", suggestion);
+    let n = labelled(out, n, b" piece ", e.piece);
     byte(out, n, b'\n')
 }
 
@@ -309,12 +315,13 @@ pub fn short_piece(out: &mut [u8], used: usize, p: Piece) -> usize {
     }
 }
 
-// An error record's line in the short listing: its kind and its span.
+// An error record's line in the short listing: its kind, its span, and how many pieces were listed before it.
 pub fn short_error(out: &mut [u8], used: usize, e: ErrorRecord) -> usize {
     let at = e.span;
     let n = number(out, used, e.kind as usize);
     let n = byte(out, n, b' ');
     let n = pair(out, n, at.start.0, b" ", at.end.0);
+    let n = labelled(out, n, b" ", e.piece);
     byte(out, n, b'\n')
 }
 

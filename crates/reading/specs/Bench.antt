@@ -32,10 +32,10 @@ use Rattle.closing.specs.Defaults.{noMarks, noCounts, isDefault, isIdentifier}
 use Rattle.closing.specs.Recovery.{gapAt, fieldRead, recoverRead}
 use Rattle.closing.specs.Wholes.{missingRead, placeholderRead}
 use Rattle.reading.specs.Steps.{afterOpen, afterClose, stepAt, stepsFrom, reading}
-use Rattle.reading.specs.Faults.{argumentSlots, missingSlots, closingSlots, stepSlots, wrong, faultsOf}
+use Rattle.reading.specs.Faults.{argumentSlots, missingSlots, closingSlots, stepSlots, wrong, faultsOf, marked}
 use Rattle.reading.specs.Records.{errorOf, bareError, recordOf}
 use Rattle.reading.specs.Lines.{before, charsIn, newlines, cut, lineAfter, endedLines, lineStart}
-use Rattle.reading.specs.Lists.{gather, pieces, frontOnly, backOnly, reversed, listed, records, faults, errors, places, literalChars, toTheEnd, sameSpan, isLast, linesIn, lines, countsOf}
+use Rattle.reading.specs.Lists.{gather, pieces, frontOnly, backOnly, reversed, listed, records, findings, found, errors, places, literalChars, toTheEnd, sameSpan, isLast, linesIn, lines, countsOf}
 use Rattle.reading.specs.Answers.{noCounts as none-counted, answered, isLong, isBroken, endsInNewline, lacksNewline, modeOf, frameFor, firstOf, answerBy, answerOf}
 use Rattle.reading.specs.Cases.{Case, rooms256, allGiven, bytesOf, span, range, some, none, quoted, unquoted, lit, arg, named, spec, typed, empty, ask, counts, rooms, done, bare, source}
 use Rattle.reading.specs.declared.Answer.{Answer}
@@ -65,25 +65,25 @@ table =
     -- B7: at 65535, clean
     bare 0 "{65535}" (arg 0 7 (Place.At (Numeral.Within 65535)) (span 2 7) (empty 6) ∷ []) [] ∷
     -- B8: over; kind 7, span 2..8 (it takes in the next character)
-    bare 0 "{65536}" (arg 0 7 (Place.At Numeral.Over) (span 2 7) (empty 6) ∷ []) (errorOf 7 (span 2 8) none (quoted 1 6) none ∷ []) ∷
+    bare 0 "{65536}" (arg 0 7 (Place.At Numeral.Over) (span 2 7) (empty 6) ∷ []) (errorOf 7 (span 2 8) none (quoted 1 6) none 0 ∷ []) ∷
     -- B9: fill `}`, left; kind 3 at 4..4, second 3..4
     bare 0 "{:}<"
     (arg 0 4 (Place.Next 0) (span 2 2)
     (spec (Fill.Present 0x7D (span 3 4)) Align.Left false Count.Implied none Count.Implied none (range 4 4) none) ∷
-    []) (errorOf 3 (span 4 4) (some 3 4) unquoted none ∷ []) ∷
+    []) (errorOf 3 (span 4 4) (some 3 4) unquoted none 0 ∷ []) ∷
     -- B10: kinds 9 (5..6), 2 (5..5), 1 (6..7)
     bare 0 "{foo?}" (arg 0 5 (named 1 4) (span 2 5) (empty 4) ∷ [])
-    (errorOf 9 (span 5 6) none unquoted (some 5 6) ∷ errorOf 2 (span 5 5) (some 1 2) (quoted 4 5) none ∷ bareError 1 (span 6 7) ∷ []) ∷
+    (errorOf 9 (span 5 6) none unquoted (some 5 6) 0 ∷ errorOf 2 (span 5 5) (some 1 2) (quoted 4 5) none 0 ∷ bareError 1 (span 6 7) 1 ∷ []) ∷
     -- B11: kind 6 twice, 3..4
-    bare 0 "{:_}" (arg 0 4 (Place.Next 0) (span 2 2) (typed 2 3 (some 3 4)) ∷ []) (bareError 6 (span 3 4) ∷ bareError 6 (span 3 4) ∷ []) ∷
+    bare 0 "{:_}" (arg 0 4 (Place.Next 0) (span 2 2) (typed 2 3 (some 3 4)) ∷ []) (bareError 6 (span 3 4) 0 ∷ bareError 6 (span 3 4) 0 ∷ []) ∷
     -- B12: kind 1, 1..2
-    bare 0 "}" [] (bareError 1 (span 1 2) ∷ []) ∷
+    bare 0 "}" [] (bareError 1 (span 1 2) 0 ∷ []) ∷
     -- B13: type x; kinds 2 (4..4), 1 (5..6); literal 3..4
     bare 0 "{:x5}" (arg 0 3 (Place.Next 0) (span 2 2) (typed 2 3 none) ∷ lit 3 4 ∷ [])
-    (errorOf 2 (span 4 4) (some 1 2) (quoted 3 4) none ∷ bareError 1 (span 5 6) ∷ []) ∷
+    (errorOf 2 (span 4 4) (some 1 2) (quoted 3 4) none 0 ∷ bareError 1 (span 5 6) 2 ∷ []) ∷
     -- B14: kinds 13 (2..5), 2 (3..3)
     bare 0 "{a.b}" (arg 0 5 (named 1 2) (span 2 3) (empty 2) ∷ [])
-    (bareError 13 (span 2 5) ∷ errorOf 2 (span 3 3) (some 1 2) (quoted 2 3) none ∷ []) ∷
+    (bareError 13 (span 2 5) 0 ∷ errorOf 2 (span 3 3) (some 1 2) (quoted 2 3) none 0 ∷ []) ∷
     -- B15, style 0, matching snippet: lines 2..3 and 5..6
     source 0 "a\n b" "r\"a\n b\"" (lit 0 4 ∷ []) [] [] (span 2 3 ∷ span 5 6 ∷ []) ∷
     []
@@ -93,71 +93,80 @@ abbrev pub further : List Case
 further =
     -- kind 4: at the end, where spans lack the quote offset; it is put at the front, and `r#` is suggested to go
     bare 0 "{r#a" (arg 0 4 (named 3 4) (span 2 4) (empty 4) ∷ [])
-    (errorOf 4 (span 2 4) none unquoted (some 2 4) ∷ errorOf 3 (span 4 4) (some 1 2) unquoted none ∷ []) ∷
+    (errorOf 4 (span 2 4) none unquoted (some 2 4) 0 ∷ errorOf 3 (span 4 4) (some 1 2) unquoted none 0 ∷ []) ∷
     -- kind 5 comes after a plain `?`
     bare 0 "{:?x}" (arg 0 3 (Place.Next 0) (span 2 2) (typed 2 3 none) ∷ lit 3 4 ∷ [])
-    (errorOf 5 (span 4 5) none (quoted 3 4) (some 3 5) ∷ errorOf 2 (span 4 4) (some 1 2) (quoted 3 4) none ∷ bareError 1 (span 5 6) ∷ []) ∷
+    (errorOf 5 (span 4 5) none (quoted 3 4) (some 3 5) 0 ∷ errorOf 2 (span 4 4) (some 1 2) (quoted 3 4) none 0 ∷ bareError 1 (span 5 6) 2 ∷ []) ∷
     -- kind 8: a `?` before `:`; the word after them is quoted
     bare 0 "{a?:x}" (arg 0 5 (named 1 2) (span 2 3) (empty 2) ∷ [])
-    (errorOf 8 (span 3 4) none (quoted 4 5) none ∷ errorOf 2 (span 3 3) (some 1 2) (quoted 2 3) none ∷ bareError 1 (span 6 7) ∷ []) ∷
+    (errorOf 8 (span 3 4) none (quoted 4 5) none 0 ∷ errorOf 2 (span 3 3) (some 1 2) (quoted 2 3) none 0 ∷ bareError 1 (span 6 7) 1 ∷ []) ∷
     -- and so is an empty one, where reading stood
     bare 0 "{?:}" (arg 0 3 (Place.Next 0) (span 2 2) (empty 1) ∷ [])
-    (errorOf 8 (span 2 3) none (quoted 3 3) none ∷ errorOf 2 (span 2 2) (some 1 2) (quoted 1 2) none ∷ bareError 1 (span 4 5) ∷ []) ∷
+    (errorOf 8 (span 2 3) none (quoted 3 3) none 0 ∷ errorOf 2 (span 2 2) (some 1 2) (quoted 1 2) none 0 ∷ bareError 1 (span 4 5) 1 ∷ []) ∷
     -- kind 9 comes with a colon too
     bare 0 "{:a?}" (arg 0 4 (Place.Next 0) (span 2 2) (typed 2 3 (some 3 4)) ∷ [])
-    (errorOf 9 (span 4 5) none unquoted (some 4 5) ∷ errorOf 2 (span 4 4) (some 1 2) (quoted 3 4) none ∷ bareError 1 (span 5 6) ∷ []) ∷
+    (errorOf 9 (span 4 5) none unquoted (some 4 5) 0 ∷ errorOf 2 (span 4 4) (some 1 2) (quoted 3 4) none 0 ∷ bareError 1 (span 5 6) 1 ∷ []) ∷
     -- any other `?` is passed silently
     bare 0 "{a?b}" (arg 0 3 (named 1 2) (span 2 3) (empty 2) ∷ lit 3 4 ∷ [])
-    (errorOf 2 (span 3 3) (some 1 2) (quoted 2 3) none ∷ bareError 1 (span 5 6) ∷ []) ∷
+    (errorOf 2 (span 3 3) (some 1 2) (quoted 2 3) none 0 ∷ bareError 1 (span 5 6) 2 ∷ []) ∷
     -- nothing follows kind 2 where one character remains, and nothing is passed
-    bare 0 "{a?" (arg 0 2 (named 1 2) (span 2 3) (empty 2) ∷ lit 2 3 ∷ []) (errorOf 2 (span 3 3) (some 1 2) (quoted 2 3) none ∷ []) ∷
+    bare 0 "{a?" (arg 0 2 (named 1 2) (span 2 3) (empty 2) ∷ lit 2 3 ∷ []) (errorOf 2 (span 3 3) (some 1 2) (quoted 2 3) none 0 ∷ []) ∷
     -- kind 10
     bare 0 "{a=}" (arg 0 3 (named 1 2) (span 2 3) (empty 2) ∷ [])
-    (errorOf 10 (span 3 4) (some 1 2) unquoted none ∷ errorOf 2 (span 3 3) (some 1 2) (quoted 2 3) none ∷ bareError 1 (span 4 5) ∷ []) ∷
+    (errorOf 10 (span 3 4) (some 1 2) unquoted none 0 ∷ errorOf 2 (span 3 3) (some 1 2) (quoted 2 3) none 0 ∷ bareError 1 (span 4 5) 1 ∷ []) ∷
     -- kind 11
     bare 0 "{a<}" (arg 0 3 (named 1 2) (span 2 3) (empty 2) ∷ [])
-    (errorOf 11 (span 3 4) none (quoted 2 3) none ∷ errorOf 2 (span 3 3) (some 1 2) (quoted 2 3) none ∷ bareError 1 (span 4 5) ∷ []) ∷
+    (errorOf 11 (span 3 4) none (quoted 2 3) none 0 ∷ errorOf 2 (span 3 3) (some 1 2) (quoted 2 3) none 0 ∷ bareError 1 (span 4 5) 1 ∷ []) ∷
     -- kind 12
     bare 0 "{a+}" (arg 0 3 (named 1 2) (span 2 3) (empty 2) ∷ [])
-    (bareError 12 (span 3 4) ∷ errorOf 2 (span 3 3) (some 1 2) (quoted 2 3) none ∷ bareError 1 (span 4 5) ∷ []) ∷
+    (bareError 12 (span 3 4) 0 ∷ errorOf 2 (span 3 3) (some 1 2) (quoted 2 3) none 0 ∷ bareError 1 (span 4 5) 1 ∷ []) ∷
     -- kind 15
     bare 0 "{a,}" (arg 0 3 (named 1 2) (span 2 3) (empty 2) ∷ [])
-    (errorOf 15 (span 3 4) (some 1 2) unquoted none ∷ errorOf 2 (span 3 3) (some 1 2) (quoted 2 3) none ∷ bareError 1 (span 4 5) ∷ []) ∷
+    (errorOf 15 (span 3 4) (some 1 2) unquoted none 0 ∷ errorOf 2 (span 3 3) (some 1 2) (quoted 2 3) none 0 ∷ bareError 1 (span 4 5) 1 ∷ []) ∷
     -- kind 14
     bare 0 "{a.0}" (arg 0 5 (named 1 2) (span 2 3) (empty 2) ∷ [])
-    (bareError 14 (span 2 5) ∷ errorOf 2 (span 3 3) (some 1 2) (quoted 2 3) none ∷ []) ∷
+    (bareError 14 (span 2 5) 0 ∷ errorOf 2 (span 3 3) (some 1 2) (quoted 2 3) none 0 ∷ []) ∷
     -- a nameless field takes a number, and nothing is said of it
     bare 0 "{a.}{}" (arg 0 4 (named 1 2) (span 2 3) (empty 2) ∷ arg 4 6 (Place.Next 1) (span 6 6) (empty 5) ∷ [])
-    (errorOf 2 (span 3 3) (some 1 2) (quoted 2 3) none ∷ []) ∷
+    (errorOf 2 (span 3 3) (some 1 2) (quoted 2 3) none 0 ∷ []) ∷
     -- so does its star, before it
     bare 0 "{a.:.*}{}" (arg 0 7 (named 1 2) (span 2 3) (empty 2) ∷ arg 7 9 (Place.Next 2) (span 9 9) (empty 8) ∷ [])
-    (errorOf 2 (span 3 3) (some 1 2) (quoted 2 3) none ∷ []) ∷
+    (errorOf 2 (span 3 3) (some 1 2) (quoted 2 3) none 0 ∷ []) ∷
     -- kind 13 needs a spec equal to the default, and a space leaves it so
     bare 0 "{a: .b}" (arg 0 7 (named 1 2) (span 2 3) (empty 3) ∷ [])
-    (bareError 13 (span 2 7) ∷ errorOf 2 (span 5 5) (some 1 2) (quoted 4 5) none ∷ []) ∷
+    (bareError 13 (span 2 7) 0 ∷ errorOf 2 (span 5 5) (some 1 2) (quoted 4 5) none 0 ∷ []) ∷
     -- in InlineAsm a dot is no precision
     bare 1 "{a:.b}" (arg 0 6 (named 1 2) (span 2 3) (empty 3) ∷ [])
-    (bareError 13 (span 2 6) ∷ errorOf 2 (span 4 4) (some 1 2) (quoted 3 4) none ∷ []) ∷
+    (bareError 13 (span 2 6) 0 ∷ errorOf 2 (span 4 4) (some 1 2) (quoted 3 4) none 0 ∷ []) ∷
     -- in Format it is, and the word is the type
     bare 0 "{a:.b}"
     (arg 0 6 (named 1 2) (span 2 3) (spec Fill.Absent Align.Unknown false Count.Implied none Count.Implied (some 4 5) (range 4 5) (some 5 6)) ∷ []) [] ∷
     -- no whitespace is skipped before the `}` of a field: no kind 13
     bare 0 "{a.b:x }" (arg 0 6 (named 1 2) (span 2 3) (empty 2) ∷ lit 6 7 ∷ [])
-    (errorOf 2 (span 3 3) (some 1 2) (quoted 2 3) none ∷ bareError 1 (span 8 9) ∷ []) ∷
+    (errorOf 2 (span 3 3) (some 1 2) (quoted 2 3) none 0 ∷ bareError 1 (span 8 9) 2 ∷ []) ∷
     -- kinds 6 and 7 at the end, where spans lack the quote offset
-    bare 0 "{_" (arg 0 2 (named 1 2) (span 2 2) (empty 2) ∷ []) (bareError 6 (span 2 2) ∷ errorOf 3 (span 2 2) (some 1 2) unquoted none ∷ []) ∷
+    bare 0 "{_" (arg 0 2 (named 1 2) (span 2 2) (empty 2) ∷ []) (bareError 6 (span 2 2) 0 ∷ errorOf 3 (span 2 2) (some 1 2) unquoted none 0 ∷ []) ∷
     bare 0 "{65536" (arg 0 6 (Place.At Numeral.Over) (span 2 6) (empty 6) ∷ [])
-    (errorOf 7 (span 2 6) none (quoted 1 6) none ∷ errorOf 3 (span 6 6) (some 1 2) unquoted none ∷ []) ∷
+    (errorOf 7 (span 2 6) none (quoted 1 6) none 0 ∷ errorOf 3 (span 6 6) (some 1 2) unquoted none 0 ∷ []) ∷
+    -- each record has the number of the pieces before its own: at the front the last comes first with its own, and the moved keep theirs
+    bare 0 "{a.b}{c.d}" (arg 0 5 (named 1 2) (span 2 3) (empty 2) ∷ arg 5 10 (named 6 7) (span 7 8) (empty 7) ∷ [])
+    (bareError 13 (span 7 10) 1 ∷
+    bareError 13 (span 2 5) 0 ∷
+    errorOf 2 (span 3 3) (some 1 2) (quoted 2 3) none 0 ∷
+    errorOf 2 (span 8 8) (some 6 7) (quoted 7 8) none 1 ∷
+    []) ∷
+    -- and literal text is a piece too
+    bare 0 "x{_}" (lit 0 1 ∷ arg 1 4 (named 2 3) (span 3 4) (empty 3) ∷ []) (bareError 6 (span 3 4) 1 ∷ []) ∷
     -- in Diagnostic the type's text starts after the colon, its span at the colon
     bare 2 "{a:x }" (arg 0 6 (named 1 2) (span 2 3) (typed 3 5 (some 3 6)) ∷ []) [] ∷
     -- a source literal: argument places, brace to brace
     source 0 "{}{a}" "r\"{}{a}\"" (arg 0 2 (Place.Next 0) (span 3 3) (empty 1) ∷ arg 2 5 (named 3 4) (span 5 6) (empty 4) ∷ [])
     [] (span 2 4 ∷ span 4 7 ∷ []) (span 2 7 ∷ []) ∷
     -- a placeholder that is not closed gives none
-    source 0 "{a" "r\"{a\"" (arg 0 2 (named 1 2) (span 3 4) (empty 2) ∷ []) (errorOf 3 (span 4 4) (some 2 3) unquoted none ∷ []) []
+    source 0 "{a" "r\"{a\"" (arg 0 2 (named 1 2) (span 3 4) (empty 2) ∷ []) (errorOf 3 (span 4 4) (some 2 3) unquoted none 0 ∷ []) []
     (span 2 4 ∷ []) ∷
     -- a stop at a lone `}` adds no last line
-    source 0 "a\n}" "r\"a\n}\"" (lit 0 2 ∷ []) (bareError 1 (span 4 5) ∷ []) [] (span 2 3 ∷ []) ∷
+    source 0 "a\n}" "r\"a\n}\"" (lit 0 2 ∷ []) (bareError 1 (span 4 5) 1 ∷ []) [] (span 2 3 ∷ []) ∷
     -- after an appended newline the last line starts past "end"
     record {
       text = bytesOf "a\n";
@@ -175,54 +184,54 @@ further =
 abbrev pub large : List Case
 large =
     -- a place: 65,536 plus 65,536 is no 0 either; zeros in front do not count; forty digits
-    bare 0 "{131072}" (arg 0 8 (Place.At Numeral.Over) (span 2 8) (empty 7) ∷ []) (errorOf 7 (span 2 9) none (quoted 1 7) none ∷ []) ∷
+    bare 0 "{131072}" (arg 0 8 (Place.At Numeral.Over) (span 2 8) (empty 7) ∷ []) (errorOf 7 (span 2 9) none (quoted 1 7) none 0 ∷ []) ∷
     bare 0 "{0000065535}" (arg 0 12 (Place.At (Numeral.Within 65535)) (span 2 12) (empty 11) ∷ []) [] ∷
-    bare 0 "{0000065536}" (arg 0 12 (Place.At Numeral.Over) (span 2 12) (empty 11) ∷ []) (errorOf 7 (span 2 13) none (quoted 1 11) none ∷ []) ∷
+    bare 0 "{0000065536}" (arg 0 12 (Place.At Numeral.Over) (span 2 12) (empty 11) ∷ []) (errorOf 7 (span 2 13) none (quoted 1 11) none 0 ∷ []) ∷
     bare 0 "{9999999999999999999999999999999999999999}" (arg 0 42 (Place.At Numeral.Over) (span 2 42) (empty 41) ∷ [])
-    (errorOf 7 (span 2 43) none (quoted 1 41) none ∷ []) ∷
+    (errorOf 7 (span 2 43) none (quoted 1 41) none 0 ∷ []) ∷
     -- a width, without its flag and with it
     bare 0 "{:65536}"
     (arg 0 8 (Place.Next 0) (span 2 2) (spec Fill.Absent Align.Unknown false (Count.Fixed Numeral.Over) (some 3 8) Count.Implied none (range 7 7) none) ∷ [])
-    (errorOf 7 (span 3 9) none (quoted 2 7) none ∷ []) ∷
+    (errorOf 7 (span 3 9) none (quoted 2 7) none 0 ∷ []) ∷
     bare 0 "{:65535}"
     (arg 0 8 (Place.Next 0) (span 2 2) (spec Fill.Absent Align.Unknown false (Count.Fixed (Numeral.Within 65535)) (some 3 8) Count.Implied none (range 7 7) none) ∷ []) [] ∷
     -- a `$` after it is taken: by argument, and the flag beside it
     bare 0 "{:65536$}"
     (arg 0 9 (Place.Next 0) (span 2 2) (spec Fill.Absent Align.Unknown false (Count.ByArgument Numeral.Over) (some 3 9) Count.Implied none (range 8 8) none) ∷ [])
-    (errorOf 7 (span 3 9) none (quoted 2 7) none ∷ []) ∷
+    (errorOf 7 (span 3 9) none (quoted 2 7) none 0 ∷ []) ∷
     bare 0 "{:065536$}"
     (arg 0 10 (Place.Next 0) (span 2 2) (spec Fill.Absent Align.Unknown true (Count.ByArgument Numeral.Over) (some 4 10) Count.Implied none (range 9 9) none) ∷ [])
-    (errorOf 7 (span 4 10) none (quoted 3 8) none ∷ []) ∷
+    (errorOf 7 (span 4 10) none (quoted 3 8) none 0 ∷ []) ∷
     -- a precision
     bare 0 "{:.65536}"
     (arg 0 9 (Place.Next 0) (span 2 2) (spec Fill.Absent Align.Unknown false Count.Implied none (Count.Fixed Numeral.Over) (some 3 9) (range 8 8) none) ∷ [])
-    (errorOf 7 (span 4 10) none (quoted 3 8) none ∷ []) ∷
+    (errorOf 7 (span 4 10) none (quoted 3 8) none 0 ∷ []) ∷
     bare 0 "{:.99999$}"
     (arg 0 10 (Place.Next 0) (span 2 2) (spec Fill.Absent Align.Unknown false Count.Implied none (Count.ByArgument Numeral.Over) (some 3 10) (range 9 9) none) ∷ [])
-    (errorOf 7 (span 4 10) none (quoted 3 8) none ∷ []) ∷
+    (errorOf 7 (span 4 10) none (quoted 3 8) none 0 ∷ []) ∷
     -- all three at once, in their order
     bare 0 "{65536:65537$.65538}"
     (arg 0 20 (Place.At Numeral.Over) (span 2 7)
     (spec Fill.Absent Align.Unknown false (Count.ByArgument Numeral.Over) (some 8 14) (Count.Fixed Numeral.Over) (some 14 20) (range 19 19) none) ∷
     [])
-    (errorOf 7 (span 2 8) none (quoted 1 6) none ∷ errorOf 7 (span 8 14) none (quoted 7 12) none ∷ errorOf 7 (span 15 21) none (quoted 14 19) none ∷ []) ∷
+    (errorOf 7 (span 2 8) none (quoted 1 6) none 0 ∷ errorOf 7 (span 8 14) none (quoted 7 12) none 0 ∷ errorOf 7 (span 15 21) none (quoted 14 19) none 0 ∷ []) ∷
     -- a place takes no `$`
     bare 0 "{065536$}" (arg 0 7 (Place.At Numeral.Over) (span 2 8) (empty 7) ∷ lit 7 8 ∷ [])
-    (errorOf 7 (span 2 9) none (quoted 1 7) none ∷ errorOf 2 (span 8 8) (some 1 2) (quoted 7 8) none ∷ bareError 1 (span 9 10) ∷ []) ∷
+    (errorOf 7 (span 2 9) none (quoted 1 7) none 0 ∷ errorOf 2 (span 8 8) (some 1 2) (quoted 7 8) none 0 ∷ bareError 1 (span 9 10) 2 ∷ []) ∷
     -- a tuple index: kind 7 at the back, 14 at the front
     bare 0 "{a.65536}" (arg 0 9 (named 1 2) (span 2 3) (empty 2) ∷ [])
-    (bareError 14 (span 2 9) ∷ errorOf 2 (span 3 3) (some 1 2) (quoted 2 3) none ∷ errorOf 7 (span 4 10) none (quoted 3 8) none ∷ []) ∷
+    (bareError 14 (span 2 9) 0 ∷ errorOf 2 (span 3 3) (some 1 2) (quoted 2 3) none 0 ∷ errorOf 7 (span 4 10) none (quoted 3 8) none 0 ∷ []) ∷
     -- after a number no field is read
     bare 0 "{0.65536}" (arg 0 2 (Place.At (Numeral.Within 0)) (span 2 3) (empty 2) ∷ lit 2 8 ∷ [])
-    (errorOf 2 (span 3 3) (some 1 2) (quoted 2 3) none ∷ bareError 1 (span 9 10) ∷ []) ∷
+    (errorOf 2 (span 3 3) (some 1 2) (quoted 2 3) none 0 ∷ bareError 1 (span 9 10) 2 ∷ []) ∷
     -- nor after one that is over range
     bare 0 "{65536.0}" (arg 0 6 (Place.At Numeral.Over) (span 2 7) (empty 6) ∷ lit 6 8 ∷ [])
-    (errorOf 7 (span 2 8) none (quoted 1 6) none ∷ errorOf 2 (span 7 7) (some 1 2) (quoted 6 7) none ∷ bareError 1 (span 9 10) ∷ []) ∷
+    (errorOf 7 (span 2 8) none (quoted 1 6) none 0 ∷ errorOf 2 (span 7 7) (some 1 2) (quoted 6 7) none 0 ∷ bareError 1 (span 9 10) 2 ∷ []) ∷
     -- in InlineAsm and in Diagnostic a place is read in the same way, and nothing of a spec is a number
     bare 1 "{65536:65536}" (arg 0 7 (Place.At Numeral.Over) (span 2 7) (empty 7) ∷ lit 7 12 ∷ [])
-    (errorOf 7 (span 2 8) none (quoted 1 6) none ∷ errorOf 2 (span 8 8) (some 1 2) (quoted 7 8) none ∷ bareError 1 (span 13 14) ∷ []) ∷
+    (errorOf 7 (span 2 8) none (quoted 1 6) none 0 ∷ errorOf 2 (span 8 8) (some 1 2) (quoted 7 8) none 0 ∷ bareError 1 (span 13 14) 2 ∷ []) ∷
     bare 2 "{65536:65536}" (arg 0 13 (Place.At Numeral.Over) (span 2 7) (typed 7 12 (some 7 13)) ∷ [])
-    (errorOf 7 (span 2 8) none (quoted 1 6) none ∷ []) ∷
+    (errorOf 7 (span 2 8) none (quoted 1 6) none 0 ∷ []) ∷
     []
 
 -- line marks in notices: Diagnostic source literals with a newline in the text after the colon, a field's too, and in plain whitespace
@@ -233,8 +242,8 @@ notices =
     (span 2 4 ∷ span 6 8 ∷ []) ∷
     -- so does one after the colon of a field met in recovery, closed or not
     source 2 "{a.b:\nc}" "r\"{a.b:\nc}\"" (arg 0 8 (named 1 2) (span 3 4) (empty 2) ∷ [])
-    (bareError 13 (span 3 6) ∷ errorOf 2 (span 4 4) (some 2 3) (quoted 2 3) none ∷ []) [] (span 2 7 ∷ span 8 10 ∷ []) ∷
-    source 2 "{a.:\n" "r\"{a.:\n\"" (arg 0 5 (named 1 2) (span 3 4) (empty 2) ∷ []) (errorOf 2 (span 4 4) (some 2 3) (quoted 2 3) none ∷ []) []
+    (bareError 13 (span 3 6) 0 ∷ errorOf 2 (span 4 4) (some 2 3) (quoted 2 3) none 0 ∷ []) [] (span 2 7 ∷ span 8 10 ∷ []) ∷
+    source 2 "{a.:\n" "r\"{a.:\n\"" (arg 0 5 (named 1 2) (span 3 4) (empty 2) ∷ []) (errorOf 2 (span 4 4) (some 2 3) (quoted 2 3) none 0 ∷ []) []
     (span 2 6 ∷ span 7 7 ∷ []) ∷
     -- a newline in a placeholder's plain whitespace ends none
     source 2 "{a\n:x}" "r\"{a\n:x}\"" (arg 0 6 (named 1 2) (span 3 5) (typed 4 5 (some 5 7)) ∷ []) [] (span 2 8 ∷ []) (span 2 8 ∷ []) ∷
@@ -288,7 +297,7 @@ unfolding
     fillRead alignRead signRead plainWidth widthRead afterDot precisionRead hexType isHexOrHash debugType wordType typeRead formatRead
     diagnosticType specRead argumentRead noMarks noCounts isDefault isIdentifier gapAt fieldRead recoverRead
     missingRead placeholderRead afterOpen afterClose stepAt stepsFrom reading argumentSlots missingSlots closingSlots stepSlots wrong
-    faultsOf recordOf before charsIn newlines cut lineAfter endedLines lineStart gather pieces frontOnly backOnly reversed listed records
-    faults errors places literalChars toTheEnd sameSpan isLast linesIn lines countsOf isLong isBroken endsInNewline lacksNewline modeOf
+    faultsOf marked recordOf before charsIn newlines cut lineAfter endedLines lineStart gather pieces frontOnly backOnly reversed listed records
+    findings found errors places literalChars toTheEnd sameSpan isLast linesIn lines countsOf isLong isBroken endsInNewline lacksNewline modeOf
     frameFor firstOf answerBy answerOf
 bench = (refl, refl, refl, refl, refl)

@@ -1,4 +1,5 @@
--- What a step found wrong, in the order of reading.
+-- What a step found wrong, in the order of reading, and a fault with the number of pieces before it.
+use Prim.Native.Nat.{ℕ}
 use mathlib.Core.Bool.{Bool, true, false}
 use mathlib.Core.List.{List, [], _∷_, _++_}
 use Rattle.utf8.specs.Choice.{pick}
@@ -89,3 +90,16 @@ wrong (x ∷ xs) = pick (isClean x) (wrong xs) (x ∷ wrong xs)
 -- what a step found wrong
 unfoldable pub faultsOf : Step → List Fault
 faultsOf s = wrong (stepSlots s)
+
+-- A FINDING: a fault, and "the number of pieces already listed when that error was recorded" (R7.9)
+pub record Finding : Type 0 where
+  pub fault : Fault
+  pub piece : ℕ
+
+abbrev pub finding : ℕ → Fault → Finding
+finding n x = record { fault = x; piece = n }
+
+-- faults that were recorded when so many pieces were listed
+unfoldable pub marked : ℕ → List Fault → List Finding
+marked n [] = []
+marked n (x ∷ xs) = finding n x ∷ marked n xs

@@ -1,5 +1,5 @@
 -- The four lists of a reading, and how many records each list has.
-use Prim.Native.Nat.{ℕ}
+use Prim.Native.Nat.{ℕ, _+_}
 use mathlib.Core.Bool.{Bool, true, false}
 use mathlib.Core.List.{List, [], _∷_, _++_}
 use lib.Dec.{eqb}
@@ -15,10 +15,9 @@ use Rattle.scan.specs.Ends.{spanAcross}
 use Rattle.frame.specs.declared.Mode.{Mode}
 use Rattle.closing.specs.declared.whole.Closing.{Closing}
 use Rattle.reading.specs.Steps.{reading}
-use Rattle.reading.specs.Faults.{faultsOf}
+use Rattle.reading.specs.Faults.{faultsOf, Finding, marked}
 use Rattle.reading.specs.Records.{isFront, recordOf}
 use Rattle.reading.specs.Lines.{charsIn, endedLines, lineStart}
-use Rattle.reading.specs.declared.Fault.{Fault}
 use Rattle.reading.specs.declared.Step.{Step}
 use Rattle.reading.specs.declared.Piece.{Piece}
 use Rattle.reading.specs.declared.ErrorRecord.{ErrorRecord}
@@ -40,32 +39,38 @@ unfoldable pub pieces : List ℕ → Frame → Mode → List Piece
 pieces t f m = gather piecesOf (reading t f m)
 
 -- ERRORS: front records the last first, then back records in order
-unfoldable pub frontOnly : List Fault → List Fault
+unfoldable pub frontOnly : List Finding → List Finding
 frontOnly [] = []
-frontOnly (x ∷ xs) = pick (isFront x) (x ∷ frontOnly xs) (frontOnly xs)
+frontOnly (x ∷ xs) = pick (isFront (x .fault)) (x ∷ frontOnly xs) (frontOnly xs)
 
-unfoldable pub backOnly : List Fault → List Fault
+unfoldable pub backOnly : List Finding → List Finding
 backOnly [] = []
-backOnly (x ∷ xs) = pick (isFront x) (backOnly xs) (x ∷ backOnly xs)
+backOnly (x ∷ xs) = pick (isFront (x .fault)) (backOnly xs) (x ∷ backOnly xs)
 
-unfoldable pub reversed : List Fault → List Fault
+unfoldable pub reversed : List Finding → List Finding
 reversed [] = []
 reversed (x ∷ xs) = reversed xs ++ (x ∷ [])
 
 -- "Added at the back: ..  Put at the front: .." (R7.2)
-unfoldable pub listed : List Fault → List Fault
+unfoldable pub listed : List Finding → List Finding
 listed xs = reversed (frontOnly xs) ++ backOnly xs
 
-unfoldable pub records : List ℕ → Frame → List Fault → List ErrorRecord
+unfoldable pub records : List ℕ → Frame → List Finding → List ErrorRecord
 records t f [] = []
-records t f (x ∷ xs) = recordOf t f x ∷ records t f xs
+records t f (x ∷ xs) = recordOf t f (x .piece) (x .fault) ∷ records t f xs
 
--- what a reading found wrong, in the order of reading
-unfoldable pub faults : List ℕ → Frame → Mode → List Fault
-faults t f m = gather faultsOf (reading t f m)
+-- what some steps found wrong, in the order of reading, where so many pieces were listed before them: a step's faults are recorded
+-- before its own piece is listed (R7.3, R7.9)
+unfoldable pub findings : ℕ → List Step → List Finding
+findings n [] = []
+findings n (x ∷ xs) = marked n (faultsOf x) ++ findings (n + length (piecesOf x)) xs
+
+-- what a reading found wrong
+unfoldable pub found : List ℕ → Frame → Mode → List Finding
+found t f m = findings 0 (reading t f m)
 
 unfoldable pub errors : List ℕ → Frame → Mode → List ErrorRecord
-errors t f m = records t f (listed (faults t f m))
+errors t f m = records t f (listed (found t f m))
 
 -- ARGUMENT PLACES: "closed placeholders, brace to brace" (R6.9)
 abbrev pub closedSpan : List ℕ → Frame → TextPlace → Closing → List Span

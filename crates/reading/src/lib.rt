@@ -79,6 +79,8 @@ pub struct ErrorRecord {
     pub second: MaybeSpan,
     pub quoted: MaybeRange,
     pub suggestion: MaybeSpan,
+    // How many pieces were listed when it was recorded.
+    pub piece: usize,
 }
 
 // How many records each list needs.

@@ -34,6 +34,7 @@ fn no_error() -> ErrorRecord {
         second: MaybeSpan::Absent,
         quoted: MaybeRange::Absent,
         suggestion: MaybeSpan::Absent,
+        piece: 0,
     }
 }
 

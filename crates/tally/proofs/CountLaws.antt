@@ -16,7 +16,7 @@ use Rattle.laws.specs.StepLaws.{steps-more, steps-over, steps-none, not-end}
 use Rattle.reading.specs.Faults.{faultsOf}
 use Rattle.reading.specs.Lines.{charsIn, newlines}
 use Rattle.laws.specs.LineLaws.{by-test, newlines-append}
-use Rattle.reading.specs.Lists.{gather, piecesOf, pieces, faults, closedSpan, placesOf, places, missingText, textsOf, literalChars, isEnd, toTheEnd, lines, countsOf}
+use Rattle.reading.specs.Lists.{gather, piecesOf, pieces, closedSpan, placesOf, places, missingText, textsOf, literalChars, isEnd, toTheEnd, lines, countsOf}
 use Rattle.laws.specs.Counting.{pieceCount, closedCount, placeCount, closingLines, lineCount, stepCounts, sum, Countable}
 use Rattle.laws.specs.ListLaws.{gather-one, errors-length, literal-more, plainLines, lines-length}
 use Rattle.laws.specs.OrderLaws.{lines-plain}
@@ -129,7 +129,7 @@ module _ (t : List ℕ) (f : Frame) (x : Step) where
 
 -- a whole reading
 pub counts-all : (t : List ℕ) (f : Frame) (m : Mode) → countsIn t f (reading t f m) ≡ countsOf t f m
-unfolding countsIn countsOf pieces faults places pick
+unfolding countsIn countsOf pieces places pick
 counts-all t f m =
     let xs = reading t f m in
     let spans = gather (placesOf t f) xs in

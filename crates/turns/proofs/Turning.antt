@@ -1,6 +1,6 @@
 -- What one step does to the pieces and the faults that are left at a cursor. Rests on Turns, TurnLaws and `laws`' WalkLaws.
 use Prim.Native.Nat.{ℕ, _+_, _-_, _≤_, _<_}
-use mathlib.Core.Path.{_≡_, refl}
+use mathlib.Core.Path.{_≡_, refl, ap}
 use mathlib.Core.Bool.{false}
 use mathlib.Core.List.{List, [], _∷_}
 use native.Mathlib.Nat.{le-trans}
@@ -12,9 +12,9 @@ use Rattle.reading.specs.declared.Fault.{Fault}
 use Rattle.frame.specs.declared.Mode.{Mode}
 use Rattle.reading.specs.Steps.{stepAt, onward}
 use Rattle.laws.specs.StepLaws.{steps-none}
-use Rattle.reading.specs.Faults.{stepSlots, wrong}
+use Rattle.reading.specs.Faults.{stepSlots, wrong, finding, marked}
 use Rattle.laws.specs.FaultLaws.{wrong-slot, slots-few}
-use Rattle.reading.specs.Lists.{gather, piecesOf}
+use Rattle.reading.specs.Lists.{gather, piecesOf, findings}
 use Rattle.reading.specs.declared.State.{State}
 use Rattle.reading.specs.declared.Step.{Step}
 use Rattle.reading.specs.declared.Onward.{Onward}
@@ -25,8 +25,8 @@ use Rattle.turns.specs.declared.Cursor.{Cursor}
 use Rattle.turns.specs.declared.FaultTurn.{FaultTurn}
 use Rattle.laws.specs.WalkLaws.{kept-on, steps-some, steps-on, steps-over}
 
-abbrev pub cursorOf : State → ℕ → Cursor
-cursorOf s k = record { state = s; left = k }
+abbrev pub cursorOf : State → ℕ → ℕ → Cursor
+cursorOf s k n = record { state = s; left = k; pieces = n }
 
 -- a step after which reading is over has no piece
 over-piece : (s : State) (x : Step) → onward s x ≡ Onward.Over → piecesOf x ≡ []
@@ -41,6 +41,10 @@ on-piece s Step.End e = cc
 on-piece s (Step.Stop p) e = cc
 on-piece s (Step.Literal r) e = refl
 on-piece s (Step.Placeholder p) e = refl
+
+-- so that one more is listed after it
+one-more : (s : State) (x : Step) {a : State} (n : ℕ) → onward s x ≡ Onward.To a → n + length (piecesOf x) ≡ n + 1
+one-more s x n e = omega (arith, ap length (on-piece s x e))
 
 module _ (t : List ℕ) (f : Frame) (m : Mode) (c : Cursor) where
   -- where no step is left, nothing is
@@ -60,36 +64,37 @@ module _ (t : List ℕ) (f : Frame) (m : Mode) (c : Cursor) where
 
     -- each other step has one, and then come those after it
     pub pieces-on : {a : State} → onward (c .state) x ≡ Onward.To a →
-        piecesAt t f m c ≡ pieceOf x ∷ piecesAt t f m (cursorOf a (c .left - 1))
+        piecesAt t f m c ≡ pieceOf x ∷ piecesAt t f m (cursorOf a (c .left - 1) (c .pieces + 1))
     unfolding piecesAt gather
     pieces-on g = rw (steps-on t f m (c .state) e (c .left) some g, on-piece _ x g)
 
     -- a run's cursor after a step is one that it has
-    pub fresh-on : {a : State} → onward (c .state) x ≡ Onward.To a → Fresh c → Fresh (cursorOf a (c .left - 1))
-    fresh-on g h = kept-on t f m (c .state) e (c .left) some g h
+    pub fresh-on : {a : State} → onward (c .state) x ≡ Onward.To a → Fresh c → Fresh (cursorOf a (c .left - 1) (c .pieces + 1))
+    fresh-on g h = (kept-on t f m (c .state) e (c .left) some g (h .0), omega (arith, h .1))
 
     module _ (slot k : ℕ) (w : FirstWrong x slot k) where
       -- a slot that is not clean gives the next fault
-      pub faults-found : k < 13 → faultsAt t f m c slot ≡ getD (stepSlots x) k Fault.Clean ∷ faultsAt t f m c (k + 1)
-      unfolding faultsAt
+      pub faults-found : k < 13 → faultsAt t f m c slot ≡ finding (c .pieces) (getD (stepSlots x) k Fault.Clean) ∷ faultsAt t f m c (k + 1)
+      unfolding faultsAt marked
       faults-found h =
           rw (steps-some t f m (c .state) e (c .left) some, w .skipped, wrong-slot (stepSlots x) k (w .found h))
 
       -- the last step has no further fault
       pub faults-over : 13 ≤ k → onward (c .state) x ≡ Onward.Over → faultsAt t f m c slot ≡ []
-      unfolding faultsAt gather wrong
+      unfolding faultsAt findings wrong marked
       faults-over h g =
           rw (steps-over t f m (c .state) e (c .left) some g, w .skipped, drop-of-length-le (stepSlots x) (le-trans (slots-few x) h))
 
       -- past the last slot come the faults of the next step
       pub faults-on : {a : State} → 13 ≤ k → onward (c .state) x ≡ Onward.To a →
-          faultsAt t f m c slot ≡ faultsAt t f m (cursorOf a (c .left - 1)) 0
-      unfolding faultsAt wrong
+          faultsAt t f m c slot ≡ faultsAt t f m (cursorOf a (c .left - 1) (c .pieces + 1)) 0
+      unfolding faultsAt wrong marked
       faults-on h g =
           rw (
             steps-on t f m (c .state) e (c .left) some g,
             w .skipped,
             drop-of-length-le (stepSlots x) (le-trans (slots-few x) h),
+            one-more (c .state) x (c .pieces) g,
             faults-first,
           )
 

@@ -7,12 +7,11 @@ use lib.ListN.{length, drop}
 use Rattle.utf8.specs.Choice.{pick}
 use Rattle.frame.specs.Places.{place, rangeOf}
 use Rattle.frame.specs.declared.Frame.{Frame}
-use Rattle.reading.specs.declared.Fault.{Fault}
 use Rattle.frame.specs.declared.Mode.{Mode}
 use Rattle.reading.specs.Steps.{start, stepsFrom}
-use Rattle.reading.specs.Faults.{stepSlots, wrong, faultsOf}
+use Rattle.reading.specs.Faults.{stepSlots, wrong, Finding, marked}
 use Rattle.reading.specs.Records.{isFront, recordOf}
-use Rattle.reading.specs.Lists.{gather, piecesOf}
+use Rattle.reading.specs.Lists.{gather, piecesOf, findings}
 use Rattle.reading.specs.declared.Step.{Step}
 use Rattle.reading.specs.declared.Piece.{Piece}
 use Rattle.reading.specs.declared.ErrorRecord.{ErrorRecord}
@@ -23,11 +22,11 @@ use Rattle.turns.specs.declared.FaultTurn.{FaultTurn}
 
 -- the start of a text
 abbrev pub firstCursor : List ℕ → Cursor
-firstCursor t = record { state = start; left = length t + 1 }
+firstCursor t = record { state = start; left = length t + 1; pieces = 0 }
 
--- a cursor that a run has
+-- a cursor that a run has: no more pieces than there were steps
 abbrev pub Fresh : Cursor → Type 0
-Fresh c = Kept (c .left) (c .state)
+Fresh c = Kept (c .left) (c .state) × (c .pieces + c .left ≤ 0x10000)
 
 -- the steps from a cursor on
 abbrev pub stepsAt : List ℕ → Frame → Mode → Cursor → List Step
@@ -57,14 +56,14 @@ pub record PieceNext (t : List ℕ) (f : Frame) (m : Mode) (c : Cursor) (r : Pie
   pub fresh : Fresh (r .cursor)
 
 -- ERROR RECORDS
--- the faults of the first of some steps from a slot on, and of the steps after it
-abbrev pub faultsIn : ℕ → List Step → List Fault
-faultsIn slot [] = []
-faultsIn slot (x ∷ xs) = wrong (drop slot (stepSlots x)) ++ gather faultsOf xs
+-- the findings of the first of some steps from a slot on, where so many pieces were listed, and of the steps after it
+abbrev pub faultsIn : ℕ → ℕ → List Step → List Finding
+faultsIn slot n [] = []
+faultsIn slot n (x ∷ xs) = marked n (wrong (drop slot (stepSlots x))) ++ findings (n + length (piecesOf x)) xs
 
--- the faults from a slot of the step at a cursor on
-unfoldable pub faultsAt : List ℕ → Frame → Mode → Cursor → ℕ → List Fault
-faultsAt t f m c slot = faultsIn slot (stepsAt t f m c)
+-- those from a slot of the step at a cursor on
+unfoldable pub faultsAt : List ℕ → Frame → Mode → Cursor → ℕ → List Finding
+faultsAt t f m c slot = faultsIn slot (c .pieces) (stepsAt t f m c)
 
 -- a record, and whether it is put at the front
 pub record Note : Type 0 where
@@ -74,9 +73,9 @@ pub record Note : Type 0 where
 abbrev pub note : Bool → ErrorRecord → Note
 note x e = record { front = x; entry = e }
 
-unfoldable pub notes : List ℕ → Frame → List Fault → List Note
+unfoldable pub notes : List ℕ → Frame → List Finding → List Note
 notes t f [] = []
-notes t f (x ∷ xs) = note (isFront x) (recordOf t f x) ∷ notes t f xs
+notes t f (x ∷ xs) = note (isFront (x .fault)) (recordOf t f (x .piece) (x .fault)) ∷ notes t f xs
 
 -- the turn's record and those after it
 abbrev pub notesTurn : List ℕ → Frame → Mode → FaultTurn → List Note

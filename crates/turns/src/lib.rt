@@ -16,10 +16,11 @@ ghost use lib.ListN.{length};
 ghost use Rattle.frame.specs.Bounds.{Small};
 ghost use Rattle.turns.specs.Turns.{Fresh, firstCursor, pieceOf, PieceNext, FaultNext};
 
-// Where a run over the steps stands, and how many steps it may still take.
+// Where a run over the steps stands, how many steps it may still take, and how many pieces those before it gave.
 pub struct Cursor {
     pub state: State,
     pub left: usize,
+    pub pieces: usize,
 }
 
 // The next piece, if there is one, and where the run stands after it.
@@ -50,6 +51,7 @@ pub fn first_cursor(text: &[u8]) -> Cursor
     Cursor {
         state,
         left: text.len() + 1,
+        pieces: 0,
     }
 }
 
@@ -101,6 +103,7 @@ pub fn next_piece(text: &[u8], frame: Frame, mode: Mode, cursor: Cursor) -> Piec
             cursor: Cursor {
                 state: after,
                 left: cursor.left - 1,
+                pieces: cursor.pieces + 1,
             },
         },
     }
@@ -119,7 +122,7 @@ pub fn next_fault(text: &[u8], frame: Frame, mode: Mode, cursor: Cursor, slot: u
         let k = faults::first_wrong(step, from);
         if k < 13 {
             let fault = faults::fault_at(step, k);
-            let record = faults::record_of(text, frame, fault);
+            let record = faults::record_of(text, frame, fault, on.pieces);
             return FaultTurn {
                 more: true,
                 front: faults::is_front(fault),
@@ -136,6 +139,7 @@ pub fn next_fault(text: &[u8], frame: Frame, mode: Mode, cursor: Cursor, slot: u
                 on = Cursor {
                     state: after,
                     left: on.left - 1,
+                    pieces: on.pieces + 1,
                 };
                 from = 0;
             }
@@ -149,7 +153,7 @@ fn no_fault(text: &[u8], frame: Frame, cursor: Cursor) -> FaultTurn
     requires { ⌜ Small (now text) frame ⌝ }
     ensures { λ r. ⌜ (r .more ≡ false) × (r .cursor ≡ cursor) × (r .slot ≡ 0) ⌝ }
 {
-    let record = faults::record_of(text, frame, Fault::Clean);
+    let record = faults::record_of(text, frame, Fault::Clean, 0);
     FaultTurn {
         more: false,
         front: false,

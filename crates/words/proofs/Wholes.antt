@@ -69,7 +69,7 @@ module _ (l : List ℕ) (k : ℕ) where
         laying-last h w₈
 
   module _ (x : ErrorRecord) (room : k + 16 ≤ length l) {l₁ l₂ l₃ l₄ : List ℕ} where
-    pub error-laid : l₁ ≡ laid l k (four (x .kind) (lowOf (x .span .start .0)) (lowOf (x .span .end .0)) 0)
+    pub error-laid : l₁ ≡ laid l k (four (x .kind) (lowOf (x .span .start .0)) (lowOf (x .span .end .0)) (lowOf (x .piece)))
         → l₂ ≡ laid l₁ (k + 4) (spanWords 0 (x .second))
         → l₃ ≡ laid l₂ (k + 8) (rangeWords (x .quoted))
         → l₄ ≡ laid l₃ (k + 12) (spanWords 0 (x .suggestion))
@@ -77,7 +77,7 @@ module _ (l : List ℕ) (k : ℕ) where
     unfolding errorWords
     error-laid w₁ w₂ w₃ w₄ =
         let a = laying-first l k (errorWords x) (omega (arith, errorWords-length x)) in
-        let b = laying-on (four (x .kind) (lowOf (x .span .start .0)) (lowOf (x .span .end .0)) 0) (k + 4) a w₁ (omega arith) in
+        let b = laying-on (four (x .kind) (lowOf (x .span .start .0)) (lowOf (x .span .end .0)) (lowOf (x .piece))) (k + 4) a w₁ (omega arith) in
         let c = laying-on (spanWords 0 (x .second)) (k + 8) b w₂ (omega (arith, spanWords-length 0 (x .second))) in
         let d = laying-on (rangeWords (x .quoted)) (k + 12) c w₃ (omega (arith, rangeWords-length (x .quoted))) in
         laying-last d w₄

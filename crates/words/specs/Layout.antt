@@ -133,5 +133,5 @@ pieceWords (Piece.Placeholder a) = argumentWords a
 -- AN ERROR RECORD (R9.7)
 unfoldable pub errorWords : ErrorRecord → List ℕ
 errorWords e =
-    four (e .kind) (lowOf (e .span .start .0)) (lowOf (e .span .end .0)) 0 ++
+    four (e .kind) (lowOf (e .span .start .0)) (lowOf (e .span .end .0)) (lowOf (e .piece)) ++
     (spanWords 0 (e .second) ++ (rangeWords (e .quoted) ++ spanWords 0 (e .suggestion)))

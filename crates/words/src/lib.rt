@@ -284,17 +284,17 @@ pub fn put_error(out: &mut [u32], n: usize, record: ErrorRecord)
         record.kind as u32,
         low(span.start.0),
         low(span.end.0),
-        0,
+        low(record.piece),
     );
     put_span(&mut *out, k + 4, 0, second);
     put_range(&mut *out, k + 8, quoted);
     put_span(out, k + 12, 0, suggestion);
 }
 
-// The n-th error record, where it has a kind and a span alone.
-pub fn put_bare_error(out: &mut [u32], n: usize, kind: u8, span: Span)
+// The n-th error record, where it has a kind, a span and the number of its piece alone.
+pub fn put_bare_error(out: &mut [u32], n: usize, kind: u8, span: Span, piece: usize)
     requires { ⌜ 16 * n + 16 ≤ length (now out) ⌝ }
-    ensures { λ _. ⌜ now (out .exit) ≡ laid (now (out .entry)) (16 * n) (errorWords (bareError kind span)) ⌝ }
+    ensures { λ _. ⌜ now (out .exit) ≡ laid (now (out .entry)) (16 * n) (errorWords (bareError kind span piece)) ⌝ }
 {
     let k = 16 * n;
     put4(
@@ -303,7 +303,7 @@ pub fn put_bare_error(out: &mut [u32], n: usize, kind: u8, span: Span)
         kind as u32,
         low(span.start.0),
         low(span.end.0),
-        0,
+        low(piece),
     );
     put4(&mut *out, k + 4, 0, 0, 0, 0);
     put4(&mut *out, k + 8, 0, 0, 0, 0);

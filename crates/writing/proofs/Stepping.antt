@@ -10,7 +10,7 @@ use Rattle.frame.specs.declared.TextPlace.{TextPlace}
 use Rattle.frame.specs.declared.TextRange.{TextRange}
 use Rattle.frame.specs.declared.Mode.{Mode}
 use Rattle.closing.specs.declared.whole.PlaceholderRead.{PlaceholderRead}
-use Rattle.reading.specs.Faults.{stepSlots}
+use Rattle.reading.specs.Faults.{stepSlots, wrong, marked}
 use Rattle.reading.specs.Lists.{gather}
 use Rattle.laws.specs.ListLaws.{gather-one}
 use Rattle.reading.specs.Steps.{stepAt, onward}
@@ -20,14 +20,14 @@ use Rattle.reading.specs.declared.State.{State}
 use Rattle.reading.specs.declared.Step.{Step}
 use Rattle.words.specs.Laid.{laid}
 use Rattle.words.specs.Layout.{literalWords, argumentWords, pieceWords}
-use Rattle.writing.specs.StepsWritten.{notedBy, notes, Notes, oneMore, StepRoom, Stepped, SteppedOn}
+use Rattle.writing.specs.StepsWritten.{notedBy, notes, noticed, Notes, oneMore, StepRoom, Stepped, SteppedOn}
 use Rattle.writing.specs.declared.Extent.{Extent}
 use Rattle.writing.proofs.Overlays.{laid-none}
 
 module _ (t : List ℕ) (f : Frame) {m : Extent} {ps es : List ℕ} where
   -- THE END gives nothing
   pub stepped-end : Stepped t f Step.End m ps es m ps es
-  unfolding gather stepSlots notes
+  unfolding gather stepSlots notes noticed wrong marked
   stepped-end = record { pieces = omega arith; wrote = sym (laid-none ps (40 * m .pieces)); noted = refl }
 
   -- A LONE `}` gives a record
@@ -41,7 +41,7 @@ module _ (t : List ℕ) (f : Frame) {m : Extent} {ps es : List ℕ} where
     literal-room r = omega (arith, r .pieces)
 
     pub stepped-literal : {r : Extent} {ps′ : List ℕ} → r ≡ oneMore m → ps′ ≡ laid ps (40 * m .pieces) (literalWords v) → Stepped t f (Step.Literal v) m ps es r ps′ es
-    unfolding stepSlots notes
+    unfolding stepSlots notes noticed wrong marked
     stepped-literal e w =
         record {
           pieces = ap (λ (o : Extent). o .pieces) e;
@@ -54,13 +54,13 @@ module _ (t : List ℕ) (f : Frame) {m : Extent} {ps es : List ℕ} where
     pub argument-room : StepRoom (Step.Placeholder p) m ps es → 40 * m .pieces + 40 ≤ length ps
     argument-room r = omega (arith, r .pieces)
 
-    pub stepped-placeholder : {o : Extent} → o ≡ oneMore m → {r : Extent} {ps′ es′ : List ℕ} → ps′ ≡ laid ps (40 * m .pieces) (argumentWords (p .argument)) →
-        Notes t f o es (stepSlots (Step.Placeholder p)) r es′ → Stepped t f (Step.Placeholder p) m ps es r ps′ es′
-    stepped-placeholder e w n =
+    pub stepped-placeholder : {ps′ : List ℕ} → ps′ ≡ laid ps (40 * m .pieces) (argumentWords (p .argument)) → {o : Extent} {es′ : List ℕ} →
+        Notes t f m es (stepSlots (Step.Placeholder p)) o es′ → {r : Extent} → r ≡ oneMore o → Stepped t f (Step.Placeholder p) m ps es r ps′ es′
+    stepped-placeholder w {es′ = es′} n e =
         record {
-          pieces = n .pieces ∙ ap (λ (o : Extent). o .pieces) e;
+          pieces = ap (λ (o : Extent). o .pieces) e ∙ ap (λ (k : ℕ). k + 1) (n .pieces);
           wrote = w ∙ ap (laid ps (40 * m .pieces)) (sym (gather-one pieceWords (Piece.Placeholder (p .argument))));
-          noted = n .noted ∙ ap (λ (o : Extent). notes t f (notedBy o es) (stepSlots (Step.Placeholder p))) e;
+          noted = ap (λ (o : Extent). notedBy o es′) e ∙ n .noted;
         }
 
 -- WHERE READING GOES ON: as it does after the step

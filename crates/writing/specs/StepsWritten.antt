@@ -8,7 +8,7 @@ use lib.ListN.{length}
 use Rattle.utf8.specs.Choice.{pick}
 use Rattle.frame.specs.declared.Frame.{Frame}
 use Rattle.frame.specs.declared.Mode.{Mode}
-use Rattle.reading.specs.Faults.{isClean, stepSlots, wrong}
+use Rattle.reading.specs.Faults.{stepSlots, wrong, Finding, marked}
 use Rattle.reading.specs.Lists.{gather, piecesOf, frontOnly, backOnly}
 use Rattle.reading.specs.Records.{isFront, recordOf}
 use Rattle.reading.specs.Steps.{stepAt, onward}
@@ -55,42 +55,38 @@ atFront e s =
       list = laid (s .list) (16 * (s .low - 1)) (errorWords e);
     }
 
--- a fault's record; nothing where nothing is wrong
-unfoldable pub note : List ℕ → Frame → Noted → Fault → Noted
+-- a finding's record
+unfoldable pub note : List ℕ → Frame → Noted → Finding → Noted
 note t f s x =
-    pick (isClean x) s
-    (pick (isFront x) (pick (eqb (s .low) 0) (counted s) (atFront (recordOf t f x) s))
-    (atBack (recordOf t f x) s))
+    pick (isFront (x .fault)) (pick (eqb (s .low) 0) (counted s) (atFront (recordOf t f (x .piece) (x .fault)) s))
+    (atBack (recordOf t f (x .piece) (x .fault)) s)
 
--- those of some faults, one after the other
-unfoldable pub notes : List ℕ → Frame → Noted → List Fault → Noted
+-- those of some findings, one after the other
+unfoldable pub notes : List ℕ → Frame → Noted → List Finding → Noted
 notes t f s [] = s
 notes t f s (x ∷ xs) = notes t f (note t f s x) xs
 
--- what of them goes to the front, and what to the back
-abbrev pub fronts : List Fault → List Fault
-fronts xs = frontOnly (wrong xs)
-
-abbrev pub backs : List Fault → List Fault
-backs xs = backOnly (wrong xs)
+-- what is wrong of some slots, where so many pieces were listed
+unfoldable pub noticed : ℕ → List Fault → List Finding
+noticed n xs = marked n (wrong xs)
 
 -- the list has room for them
-pub record Room (s : Noted) (xs : List Fault) : Type 0 where
-  pub back : 16 * (s .high + length (backs xs)) ≤ length (s .list)
+pub record Room (s : Noted) (xs : List Finding) : Type 0 where
+  pub back : 16 * (s .high + length (backOnly xs)) ≤ length (s .list)
   pub front : 16 * s .low ≤ length (s .list)
-  pub count : s .fronts + length (fronts xs) ≤ length (s .list)
+  pub count : s .fronts + length (frontOnly xs) ≤ length (s .list)
 
--- some faults' records are written, and no piece
+-- some slots' records are written, and no piece
 pub record Notes (t : List ℕ) (f : Frame) (m : Extent) (es : List ℕ) (xs : List Fault) (r : Extent) (es′ : List ℕ) : Type 0 where
   pub pieces : r .pieces ≡ m .pieces
-  pub noted : notedBy r es′ ≡ notes t f (notedBy m es) xs
+  pub noted : notedBy r es′ ≡ notes t f (notedBy m es) (noticed (m .pieces) xs)
 
--- some faults, all of the back: the list has room for their records
-abbrev pub BackRoom : ℕ → List ℕ → List Fault → Type 0
-BackRoom high es xs = 16 * (high + length (backs xs)) ≤ length es
+-- some findings, all of the back: the list has room for their records
+abbrev pub BackRoom : ℕ → List ℕ → List Finding → Type 0
+BackRoom high es xs = 16 * (high + length (backOnly xs)) ≤ length es
 
 -- and they are written, wherever those of the front begin
-pub record BackNotes (t : List ℕ) (f : Frame) (high : ℕ) (es : List ℕ) (xs : List Fault) (r : ℕ) (es′ : List ℕ) : Type 0 where
+pub record BackNotes (t : List ℕ) (f : Frame) (high : ℕ) (es : List ℕ) (xs : List Finding) (r : ℕ) (es′ : List ℕ) : Type 0 where
   pub noted : (low fronts : ℕ) →
       record { low = low; high = r; fronts = fronts; list = es′ } ≡
       notes t f (record { low = low; high = high; fronts = fronts; list = es }) xs
@@ -102,13 +98,13 @@ oneMore m = record { pieces = m .pieces + 1; low = m .low; high = m .high; front
 -- A STEP: both lists have room for what it gives
 pub record StepRoom (x : Step) (m : Extent) (ps es : List ℕ) : Type 0 where
   pub pieces : 40 * (m .pieces + length (piecesOf x)) ≤ length ps
-  pub errors : Room (notedBy m es) (stepSlots x)
+  pub errors : Room (notedBy m es) (noticed (m .pieces) (stepSlots x))
 
 -- its piece and its records are written
 pub record Stepped (t : List ℕ) (f : Frame) (x : Step) (m : Extent) (ps es : List ℕ) (r : Extent) (ps′ es′ : List ℕ) : Type 0 where
   pub pieces : r .pieces ≡ m .pieces + length (piecesOf x)
   pub wrote : ps′ ≡ laid ps (40 * m .pieces) (gather pieceWords (piecesOf x))
-  pub noted : notedBy r es′ ≡ notes t f (notedBy m es) (stepSlots x)
+  pub noted : notedBy r es′ ≡ notes t f (notedBy m es) (noticed (m .pieces) (stepSlots x))
 
 -- and reading goes on as it does after the step
 pub record SteppedOn (t : List ℕ) (f : Frame) (m : Mode) (s : State) (k : Extent) (ps es : List ℕ) (r : StepWritten) (ps′ es′ : List ℕ) : Type 0 where

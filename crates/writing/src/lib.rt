@@ -19,7 +19,7 @@ ghost use Rattle.reading.specs.Records.{recordOf};
 ghost use Rattle.reading.specs.Steps.{stepAt};
 ghost use Rattle.words.specs.Laid.{laid};
 ghost use Rattle.words.specs.Layout.{errorWords};
-ghost use Rattle.writing.specs.StepsWritten.{notedBy, Room, Notes, oneMore, StepRoom, Stepped, SteppedOn};
+ghost use Rattle.writing.specs.StepsWritten.{notedBy, noticed, Room, Notes, oneMore, StepRoom, Stepped, SteppedOn};
 
 // What is written: how many pieces, where the error records begin and end, and how many records of the front were met.
 pub struct Extent {
@@ -36,12 +36,12 @@ pub struct StepWritten {
     pub extent: Extent,
 }
 
-// A fault's record as the n-th.
-fn put_record(text: &[u8], frame: Frame, fault: Fault, errors: &mut [u32], n: usize)
+// A fault's record as the n-th, where so many pieces were listed.
+fn put_record(text: &[u8], frame: Frame, fault: Fault, piece: usize, errors: &mut [u32], n: usize)
     requires { ⌜ Small (now text) frame × (16 * n + 16 ≤ length (now errors)) ⌝ }
-    ensures { λ _. ⌜ now (errors .exit) ≡ laid (now (errors .entry)) (16 * n) (errorWords (recordOf (now (text .entry)) frame fault)) ⌝ }
+    ensures { λ _. ⌜ now (errors .exit) ≡ laid (now (errors .entry)) (16 * n) (errorWords (recordOf (now (text .entry)) frame piece fault)) ⌝ }
 {
-    let record = faults::record_of(text, frame, fault);
+    let record = faults::record_of(text, frame, fault, piece);
     put_error(errors, n, record);
 }
 
@@ -53,11 +53,11 @@ pub fn put_fault(
     errors: &mut [u32],
     extent: Extent,
 ) -> Extent
-    requires { ⌜ Small (now text) frame × (isClean fault ≡ false) × Room (notedBy extent (now errors)) (fault ∷ []) ⌝ }
+    requires { ⌜ Small (now text) frame × (isClean fault ≡ false) × Room (notedBy extent (now errors)) (noticed (extent .pieces) (fault ∷ [])) ⌝ }
     ensures { λ r. ⌜ Notes (now (text .entry)) frame extent (now (errors .entry)) (fault ∷ []) r (now (errors .exit)) ⌝ }
 {
     if !faults::is_front(fault) {
-        put_record(text, frame, fault, errors, extent.high);
+        put_record(text, frame, fault, extent.pieces, errors, extent.high);
         return Extent {
             pieces: extent.pieces,
             low: extent.low,
@@ -73,7 +73,7 @@ pub fn put_fault(
             fronts: extent.fronts + 1,
         };
     }
-    put_record(text, frame, fault, errors, extent.low - 1);
+    put_record(text, frame, fault, extent.pieces, errors, extent.low - 1);
     Extent {
         pieces: extent.pieces,
         low: extent.low - 1,
@@ -84,7 +84,7 @@ pub fn put_fault(
 
 // What a step found wrong: the record of each fault, in the order of reading.
 fn put_faults(text: &[u8], frame: Frame, step: Step, errors: &mut [u32], extent: Extent) -> Extent
-    requires { ⌜ Small (now text) frame × Room (notedBy extent (now errors)) (stepSlots step) ⌝ }
+    requires { ⌜ Small (now text) frame × Room (notedBy extent (now errors)) (noticed (extent .pieces) (stepSlots step)) ⌝ }
     ensures { λ r. ⌜ Notes (now (text .entry)) frame extent (now (errors .entry)) (stepSlots step) r (now (errors .exit)) ⌝ }
 {
     let mut after = extent;
@@ -132,7 +132,8 @@ fn put_step(
         Step::Placeholder(read) => {
             let argument = read.argument;
             put_argument(pieces, extent.pieces, argument);
-            put_faults(text, frame, step, errors, one_more(extent))
+            // Its records have the number of the pieces before its own.
+            one_more(put_faults(text, frame, step, errors, extent))
         }
     }
 }

@@ -1,4 +1,4 @@
--- The record is put together from its five parts, each by its own function.
+-- The record is put together from its five parts, each by its own function, and the number of pieces.
 use Rattle.laws.specs.RecordLaws.{record-parts}
 use Rattle.faults.proofs.record_of.Statement.{statement}
 use Rattle.faults.proofs.record_of.Tie as tie

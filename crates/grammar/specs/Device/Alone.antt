@@ -1,6 +1,6 @@
 -- Kind 1 is a lone `}`'s alone: it is recorded where one is among the faults, and no flaw, gap or hint of a placeholder is of kind 1.
 -- Rests on the order of records.
-use mathlib.Core.Path.{_≡_, refl}
+use mathlib.Core.Path.{_≡_, refl, sym}
 use mathlib.Core.Logic.{_⊎_, inl, inr}
 use mathlib.Core.List.{List, [], _∷_, _++_}
 use mathlib.Core.Bool.{false}
@@ -18,11 +18,13 @@ use Rattle.closing.specs.declared.recover.Hint.{Hint}
 use Rattle.closing.specs.declared.recover.Recovery.{Recovery}
 use Rattle.closing.specs.declared.whole.Closing.{Closing}
 use Rattle.closing.specs.declared.whole.PlaceholderRead.{PlaceholderRead}
-use Rattle.reading.specs.Faults.{isClean, flawFault, gapFault, hintFault, argumentSlots, missingSlots, closingSlots, stepSlots, wrong}
+use Rattle.reading.specs.Faults.{isClean, flawFault, gapFault, hintFault, argumentSlots, missingSlots, closingSlots, stepSlots, wrong, faultsOf, Finding}
 use Rattle.reading.specs.Records.{isFront, recordOf}
-use Rattle.reading.specs.Lists.{frontOnly, backOnly, reversed, listed, records, faults, errors}
+use Rattle.reading.specs.Steps.{reading}
+use Rattle.reading.specs.Lists.{gather, frontOnly, backOnly, reversed, listed, records, found, errors}
 use Rattle.reading.specs.declared.Fault.{Fault}
 use Rattle.reading.specs.declared.Step.{Step}
+use Rattle.laws.specs.ListLaws.{faultsIn, faults-append, found-faults}
 use Rattle.laws.specs.RecordLaws.{kindOf, record-parts}
 use Rattle.grammar.specs.Cover.{Recorded}
 use Rattle.grammar.specs.Device.Runs.{caseB}
@@ -41,38 +43,42 @@ others-append [] ys h k = k
 others-append (x ∷ xs) ys h k = (h .0, others-append xs ys (h .1) k)
 
 -- NO FAULT OF KIND 1: none is recorded
-front-others : (xs : List Fault) → Others xs → Others (frontOnly xs)
+front-others : (xs : List Finding) → Others (faultsIn xs) → Others (faultsIn (frontOnly xs))
 unfolding frontOnly pick
 front-others [] h = h
-front-others (x ∷ xs) h = caseB (isFront x) (λ k. rw k (h .0, front-others xs (h .1))) (λ k. rw k (front-others xs (h .1)))
+front-others (x ∷ xs) h = caseB (isFront (x .fault)) (λ k. rw k (h .0, front-others xs (h .1))) (λ k. rw k (front-others xs (h .1)))
 
-back-others : (xs : List Fault) → Others xs → Others (backOnly xs)
+back-others : (xs : List Finding) → Others (faultsIn xs) → Others (faultsIn (backOnly xs))
 unfolding backOnly pick
 back-others [] h = h
-back-others (x ∷ xs) h = caseB (isFront x) (λ k. rw k (back-others xs (h .1))) (λ k. rw k (h .0, back-others xs (h .1)))
+back-others (x ∷ xs) h = caseB (isFront (x .fault)) (λ k. rw k (back-others xs (h .1))) (λ k. rw k (h .0, back-others xs (h .1)))
 
-reversed-others : (xs : List Fault) → Others xs → Others (reversed xs)
+both-others : (xs ys : List Finding) → Others (faultsIn xs) → Others (faultsIn ys) → Others (faultsIn (xs ++ ys))
+both-others xs ys h k = rw (faults-append xs ys) (others-append (faultsIn xs) (faultsIn ys) h k)
+
+reversed-others : (xs : List Finding) → Others (faultsIn xs) → Others (faultsIn (reversed xs))
 unfolding reversed
 reversed-others [] h = h
-reversed-others (x ∷ xs) h = others-append (reversed xs) (x ∷ []) (reversed-others xs (h .1)) (h .0, tt)
+reversed-others (x ∷ xs) h = both-others (reversed xs) (x ∷ []) (reversed-others xs (h .1)) (h .0, tt)
 
 pub wrong-others : (xs : List Fault) → Others xs → Others (wrong xs)
 unfolding wrong pick
 wrong-others [] h = h
 wrong-others (x ∷ xs) h = caseB (isClean x) (λ k. rw k (wrong-others xs (h .1))) (λ k. rw k (h .0, wrong-others xs (h .1)))
 
-not-recorded : (t : List ℕ) (f : Frame) (xs : List Fault) → Others xs → Recorded 1 (records t f xs) → ⊥
+not-recorded : (t : List ℕ) (f : Frame) (xs : List Finding) → Others (faultsIn xs) → Recorded 1 (records t f xs) → ⊥
 unfolding records
 not-recorded t f [] h k = k
-not-recorded t f (x ∷ xs) h (inl e) = eqb-false (kindOf x) 1 (h .0) (rw (record-parts t f x) at e)
+not-recorded t f (x ∷ xs) h (inl e) = eqb-false (kindOf (x .fault)) 1 (h .0) (rw (record-parts t f (x .piece) (x .fault)) at e)
 not-recorded t f (x ∷ xs) h (inr k) = not-recorded t f xs (h .1) k
 
-pub others-errors : (t : List ℕ) (f : Frame) (m : Mode) → Others (faults t f m) → Recorded 1 (errors t f m) → ⊥
-unfolding errors listed
-others-errors t f m h =
-    let xs : List Fault = faults t f m in
+pub others-errors : (t : List ℕ) (f : Frame) (m : Mode) → Others (gather faultsOf (reading t f m)) → Recorded 1 (errors t f m) → ⊥
+unfolding errors listed found
+others-errors t f m k =
+    let xs : List Finding = found t f m in
+    let h : Others (faultsIn xs) = rw (found-faults 0 (reading t f m)) k in
     let front = reversed-others (frontOnly xs) (front-others xs h) in
-    not-recorded t f (reversed (frontOnly xs) ++ backOnly xs) (others-append (reversed (frontOnly xs)) (backOnly xs) front (back-others xs h))
+    not-recorded t f (reversed (frontOnly xs) ++ backOnly xs) (both-others (reversed (frontOnly xs)) (backOnly xs) front (back-others xs h))
 
 -- A LONE `}` AMONG FAULTS
 abbrev In : Fault → List Fault → Type 0
@@ -84,13 +90,13 @@ in-right y [] ys h = h
 in-right y (x ∷ xs) ys h = inr (in-right y xs ys h)
 
 -- a lone `}` is recorded at the back, as kind 1
-in-back : (p : TextPlace) (xs : List Fault) → In (Fault.Unmatched p) xs → In (Fault.Unmatched p) (backOnly xs)
+in-back : (p : TextPlace) (xs : List Finding) → In (Fault.Unmatched p) (faultsIn xs) → In (Fault.Unmatched p) (faultsIn (backOnly xs))
 unfolding backOnly pick
 in-back p [] h = h
 in-back p (x ∷ xs) (inl e) = rw e (inl refl)
-in-back p (x ∷ xs) (inr h) = caseB (isFront x) (λ k. rw k (in-back p xs h)) (λ k. rw k (inr (in-back p xs h)))
+in-back p (x ∷ xs) (inr h) = caseB (isFront (x .fault)) (λ k. rw k (in-back p xs h)) (λ k. rw k (inr (in-back p xs h)))
 
-in-records : (t : List ℕ) (f : Frame) (p : TextPlace) (xs : List Fault) → In (Fault.Unmatched p) xs → Recorded 1 (records t f xs)
+in-records : (t : List ℕ) (f : Frame) (p : TextPlace) (xs : List Finding) → In (Fault.Unmatched p) (faultsIn xs) → Recorded 1 (records t f xs)
 unfolding records recordOf
 in-records t f p [] h = h
 in-records t f p (x ∷ xs) (inl e) = inl (rw e)
@@ -103,11 +109,14 @@ Told xs = (p : TextPlace) × In (Fault.Unmatched p) xs
 pub told-after : (xs ys : List Fault) → Told ys → Told (xs ++ ys)
 told-after xs ys h = (h .0, in-right (Fault.Unmatched (h .0)) xs ys (h .1))
 
-pub told-errors : (t : List ℕ) (f : Frame) (m : Mode) → Told (faults t f m) → Recorded 1 (errors t f m)
-unfolding errors listed
+pub told-errors : (t : List ℕ) (f : Frame) (m : Mode) → Told (gather faultsOf (reading t f m)) → Recorded 1 (errors t f m)
+unfolding errors listed found
 told-errors t f m h =
-    let xs : List Fault = faults t f m in
-    in-records t f (h .0) (listed xs) (in-right (Fault.Unmatched (h .0)) (reversed (frontOnly xs)) (backOnly xs) (in-back (h .0) xs (h .1)))
+    let xs : List Finding = found t f m in
+    let front = reversed (frontOnly xs) in
+    let one : In (Fault.Unmatched (h .0)) (faultsIn xs) = rw (found-faults 0 (reading t f m)) (h .1) in
+    in-records t f (h .0) (front ++ backOnly xs)
+    (rw (faults-append front (backOnly xs)) (in-right (Fault.Unmatched (h .0)) (faultsIn front) (faultsIn (backOnly xs)) (in-back (h .0) xs one)))
 
 -- A PLACEHOLDER'S: what a leaf found, that a closing brace is missing, and what is said there
 flaw-other : (x : Flaw) → Other (flawFault x)

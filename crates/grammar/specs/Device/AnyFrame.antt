@@ -46,9 +46,9 @@ use Rattle.closing.specs.declared.recover.Recovery.{Recovery}
 use Rattle.closing.specs.declared.whole.Closing.{Closing}
 use Rattle.closing.specs.declared.whole.PlaceholderRead.{PlaceholderRead}
 use Rattle.reading.specs.Steps.{afterOpen, stepAt, onward, follow, stepsFrom, start, reading}
-use Rattle.reading.specs.Faults.{stepSlots, faultsOf}
+use Rattle.reading.specs.Faults.{stepSlots, faultsOf, Finding}
 use Rattle.reading.specs.Records.{recordOf}
-use Rattle.reading.specs.Lists.{gather, piecesOf, pieces, listed, records, faults, errors}
+use Rattle.reading.specs.Lists.{gather, piecesOf, pieces, listed, records, findings, found, errors}
 use Rattle.reading.specs.declared.Fault.{Fault}
 use Rattle.reading.specs.declared.State.{State}
 use Rattle.reading.specs.declared.Step.{Step}
@@ -361,27 +361,38 @@ step-faults (Step.Stop p) = refl
 step-faults (Step.Literal r) = refl
 step-faults (Step.Placeholder p) = refl
 
-faults-same : (xs : List Step) → gather faultsOf xs ≡ gather faultsOf (map stepOf xs)
-unfolding gather
-faults-same [] = refl
-faults-same (x ∷ xs) = cc (step-faults x, faults-same xs)
+-- nor does the number of pieces before them know one
+step-count : (x : Step) → length (piecesOf x) ≡ length (piecesOf (stepOf x))
+step-count Step.End = refl
+step-count (Step.Stop p) = refl
+step-count (Step.Literal r) = refl
+step-count (Step.Placeholder p) = refl
 
-pub faults-any : (t : List ℕ) (f g : Frame) (m : Mode) → faults t f m ≡ faults t g m
-unfolding faults reading
-faults-any t f g m = blind (map stepOf) (gather faultsOf) faults-same (reading t f m) (reading t g m) (steps-any t f g m (length t + 1) start)
+found-same : (n : ℕ) (xs : List Step) → findings n xs ≡ findings n (map stepOf xs)
+unfolding findings
+found-same n [] = refl
+found-same n (x ∷ xs) = rw (← step-faults x, ← step-count x, found-same (n + length (piecesOf x)) xs)
+
+pub found-any : (t : List ℕ) (f g : Frame) (m : Mode) → found t f m ≡ found t g m
+unfolding found reading
+found-any t f g m = blind (map stepOf) (findings 0) (found-same 0) (reading t f m) (reading t g m) (steps-any t f g m (length t + 1) start)
 
 -- ERRORS: what a fault's record says beside its spans
-errors-any : {B : Type 0} (k : ErrorRecord → B) (t : List ℕ) (f g : Frame) (m : Mode) → ((x : Fault) → k (recordOf t f x) ≡ k (recordOf t g x)) →
+errors-any : {B : Type 0} (k : ErrorRecord → B) (t : List ℕ) (f g : Frame) (m : Mode) →
+    ((n : ℕ) (x : Fault) → k (recordOf t f n x) ≡ k (recordOf t g n x)) →
     map k (errors t f m) ≡ map k (errors t g m)
 unfolding errors records
-errors-any k t f g m s = rw (faults-any t f g m) (go (listed (faults t g m)))
+errors-any k t f g m s = rw (found-any t f g m) (go (listed (found t g m)))
   where
-    go : (xs : List Fault) → map k (records t f xs) ≡ map k (records t g xs)
+    go : (xs : List Finding) → map k (records t f xs) ≡ map k (records t g xs)
     go [] = refl
-    go (x ∷ xs) = cc (s x, go xs)
+    go (x ∷ xs) = cc (s (x .piece) (x .fault), go xs)
 
 pub kinds-any : (t : List ℕ) (f g : Frame) (m : Mode) → S.kinds (errors t f m) ≡ S.kinds (errors t g m)
-kinds-any t f g m = errors-any (λ x. x .kind) t f g m (λ x. rw (record-parts t f x, record-parts t g x))
+kinds-any t f g m = errors-any (λ x. x .kind) t f g m (λ n x. rw (record-parts t f n x, record-parts t g n x))
 
 pub quotes-any : (t : List ℕ) (f g : Frame) (m : Mode) → S.quotes (errors t f m) ≡ S.quotes (errors t g m)
-quotes-any t f g m = errors-any (λ x. x .quoted) t f g m (λ x. rw (record-parts t f x, record-parts t g x))
+quotes-any t f g m = errors-any (λ x. x .quoted) t f g m (λ n x. rw (record-parts t f n x, record-parts t g n x))
+
+pub numbers-any : (t : List ℕ) (f g : Frame) (m : Mode) → S.before (errors t f m) ≡ S.before (errors t g m)
+numbers-any t f g m = errors-any (λ x. x .piece) t f g m (λ n x. rw (record-parts t f n x, record-parts t g n x))

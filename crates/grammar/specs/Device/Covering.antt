@@ -27,7 +27,7 @@ use Rattle.closing.specs.OnwardLaws.{placeholder-on, placeholder-in}
 use Rattle.closing.specs.declared.whole.PlaceholderRead.{PlaceholderRead}
 use Rattle.reading.specs.Steps.{stateOf, afterOpen, afterClose, stepAt, onward, follow, stepsFrom, start, reading}
 use Rattle.reading.specs.Faults.{stepSlots, wrong, faultsOf}
-use Rattle.reading.specs.Lists.{gather, piecesOf, pieces, faults, errors}
+use Rattle.reading.specs.Lists.{gather, piecesOf, pieces, errors}
 use Rattle.reading.specs.declared.Fault.{Fault}
 use Rattle.reading.specs.declared.State.{State}
 use Rattle.reading.specs.declared.Step.{Step}
@@ -237,7 +237,7 @@ module _ (t : List ℕ) (f : Frame) (m : Mode) where
 
   -- THE COVER
   pub covered : Covered t (pieces t f m) (errors t f m)
-  unfolding pieces faults reading
+  unfolding pieces reading
   covered =
       let x = tiled (length t + 1) start (omega arith) (omega arith) in
       record {

@@ -8,7 +8,8 @@ use Rattle.utf8.specs.Utf8.{validPrefix}
 use Rattle.frame.specs.declared.Frame.{Frame}
 use Rattle.frame.specs.declared.Mode.{Mode}
 use Rattle.reading.specs.Steps.{start, reading}
-use Rattle.reading.specs.Lists.{pieces, faults, errors}
+use Rattle.reading.specs.Faults.{faultsOf}
+use Rattle.reading.specs.Lists.{gather, pieces, errors}
 use Rattle.grammar.specs.Grammar.{Element, writtenAll, utf8, Reading}
 use Rattle.grammar.specs.Pieces.{size, piecesOf}
 use Rattle.grammar.specs.Device.Parser.{Answer, none, some, parse}
@@ -34,9 +35,9 @@ module _ (t : List ℕ) (f : Frame) (m : Mode) where
 
   module _ (v : validPrefix t ≡ length t) where
     -- NO ERROR: there is a reading
-    found : (a : Answer) → parse m (length t + 1) (codes t) ≡ a → Whole (f .quote) start a (reading t f m) → faults t f m ≡ [] →
+    found : (a : Answer) → parse m (length t + 1) (codes t) ≡ a → Whole (f .quote) start a (reading t f m) →
+        gather faultsOf (reading t f m) ≡ [] →
         (es : List Element) × Reading m t es
-    unfolding faults
     found none e w h = absurd (w h)
     found (some es) e w h =
         let r = sound m (length t + 1) (codes t) es e in
@@ -55,7 +56,6 @@ module _ (t : List ℕ) (f : Frame) (m : Mode) where
         rw e at (beside cs h)
 
     pub no-error : (es : List Element) → Reading m t es → errors t f m ≡ []
-    unfolding faults
     no-error es r = faults-errors t f m (read-whole es r .0)
 
     pub its-pieces : (es : List Element) → Reading m t es → pieces t f m ≡ piecesOf (f .quote) 0 0 es

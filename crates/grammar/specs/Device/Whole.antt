@@ -7,9 +7,9 @@ use native.Mathlib.Omega.{arith}
 use lib.ListN.{length}
 use Rattle.frame.specs.declared.Frame.{Frame}
 use Rattle.frame.specs.declared.Mode.{Mode}
-use Rattle.reading.specs.Steps.{stepAt, onward, follow, stepsFrom}
+use Rattle.reading.specs.Steps.{stepAt, onward, follow, stepsFrom, reading}
 use Rattle.reading.specs.Faults.{stepSlots, wrong as wrongOnes, faultsOf}
-use Rattle.reading.specs.Lists.{gather, piecesOf as stepPieces, faults, errors}
+use Rattle.reading.specs.Lists.{gather, piecesOf as stepPieces, errors}
 use Rattle.laws.specs.ListLaws.{no-length, errors-length}
 use Rattle.reading.specs.declared.State.{State}
 use Rattle.reading.specs.declared.Step.{Step as ReadStep}
@@ -29,10 +29,10 @@ append-none [] ys h = (refl, h)
 append-none (x ∷ xs) ys h = absurd (never h)
 
 -- NO ERROR IS RECORDED exactly where nothing is wrong: there are as many of the one as of the other
-pub errors-faults : (t : List ℕ) (f : Frame) (m : Mode) → errors t f m ≡ [] → faults t f m ≡ []
-errors-faults t f m h = no-length (faults t f m) (sym (errors-length t f m) ∙ ap length h)
+pub errors-faults : (t : List ℕ) (f : Frame) (m : Mode) → errors t f m ≡ [] → gather faultsOf (reading t f m) ≡ []
+errors-faults t f m h = no-length (gather faultsOf (reading t f m)) (sym (errors-length t f m) ∙ ap length h)
 
-pub faults-errors : (t : List ℕ) (f : Frame) (m : Mode) → faults t f m ≡ [] → errors t f m ≡ []
+pub faults-errors : (t : List ℕ) (f : Frame) (m : Mode) → gather faultsOf (reading t f m) ≡ [] → errors t f m ≡ []
 faults-errors t f m h = no-length (errors t f m) (errors-length t f m ∙ ap length h)
 
 -- THE WHOLE READING

@@ -22,7 +22,7 @@ loop-holds : tie.Need-loop-holds Inv-loop μ-loop
 loop-holds c = (refl, c .before .pre .1, c .before .pre .2)
 
 step-at-requires : tie.Need-step-at-requires Inv-loop μ-loop
-step-at-requires c κs = (c .before .before .before .before .before .pre .0, omega (arith, c .before .before .before .loop .inv .1 .next))
+step-at-requires c κs = (c .before .before .before .before .before .pre .0, omega (arith, c .before .before .before .loop .inv .1 .0 .next))
 
 first-wrong-requires : tie.Need-first-wrong-requires Inv-loop μ-loop
 first-wrong-requires c κs = c .before .before .before .before .loop .inv .2
@@ -83,19 +83,22 @@ enum-known-after c = search needs
 sub-t18 : tie.Need-sub-t18 Inv-loop μ-loop
 sub-t18 c = omega arith
 
+add-t19 : tie.Need-add-t19 Inv-loop μ-loop
+add-t19 c = omega (arith, c .before .before .before .before .before .before .before .before .before .before .before .before .loop .inv .1 .1)
+
 loop-less : tie.Need-loop-less Inv-loop μ-loop
-loop-less c = omega (arith, c .before .before .before .before .before .before .before .before .before .if1 .taken)
+loop-less c = omega (arith, c .before .before .before .before .before .before .before .before .before .before .if1 .taken)
 
 loop-again : tie.Need-loop-again Inv-loop μ-loop
 loop-again c =
-    let s = c .before .before .before .before .before .before .before .before .before .before .before .before .before in
-    let l = c .before .before .before .before .before .before .before .before .before .before .before .loop in
-    let some = c .before .before .before .before .before .before .before .before .before .if1 .taken in
-    let step = c .before .before .before .before .before .before .before .step-at .ensures in
-    let on = sym (c .before .before .before .before .go-on .ensures) ∙ c .before .before .after .given .1 in
+    let s = c .before .before .before .before .before .before .before .before .before .before .before .before .before .before in
+    let l = c .before .before .before .before .before .before .before .before .before .before .before .before .loop in
+    let some = c .before .before .before .before .before .before .before .before .before .before .if1 .taken in
+    let step = c .before .before .before .before .before .before .before .before .step-at .ensures in
+    let on = sym (c .before .before .before .before .before .go-on .ensures) ∙ c .before .before .before .after .given .1 in
     let rest =
-    faults-on (now (s .args .text)) (s .args .frame) (s .args .mode) (l .on) some step (l .from) _ (c .before .before .before .before .before .before .first-wrong .ensures)
-    (c .before .before .before .before .before .if2 .left) on
+    faults-on (now (s .args .text)) (s .args .frame) (s .args .mode) (l .on) some step (l .from) _ (c .before .before .before .before .before .before .before .first-wrong .ensures)
+    (c .before .before .before .before .before .before .if2 .left) on
     in
     (sym rest ∙ l .inv .0, fresh-on (now (s .args .text)) (s .args .frame) (s .args .mode) (l .on) some step on (l .inv .1), omega arith)
 
@@ -130,6 +133,7 @@ next-fault-spec =
     returns-2
     enum-known-after
     sub-t18
+    add-t19
     loop-less
     loop-again
     no-fault-requires-2

@@ -20,7 +20,7 @@ returns c =
     record { says = sym (pieces-none (now (s .args .text)) (s .args .frame) (s .args .mode) (s .args .cursor) (omega arith)); fresh = s .pre .1 }
 
 step-at-requires : tie.Need-step-at-requires
-step-at-requires c κs = let s = c .before .before .before .before in (s .pre .0, omega (arith, s .pre .1 .next))
+step-at-requires c κs = let s = c .before .before .before .before in (s .pre .0, omega (arith, s .pre .1 .0 .next))
 
 piece-of-requires-2 : tie.Need-piece-of-requires-2
 piece-of-requires-2 c κs = tt
@@ -36,6 +36,9 @@ enum-known-after c = search needs
 
 sub-t14 : tie.Need-sub-t14
 sub-t14 c = omega arith
+
+add-t15 : tie.Need-add-t15
+add-t15 c = omega (arith, c .before .before .before .before .before .before .before .before .before .before .before .before .pre .1 .1)
 
 returns-2 : tie.Need-returns-2
 unfolding pick
@@ -53,13 +56,13 @@ returns-2 c =
 returns-3 : tie.Need-returns-3
 unfolding pick
 returns-3 c =
-    let s = c .before .before .before .before .before .before .before .before .before .before .before in
+    let s = c .before .before .before .before .before .before .before .before .before .before .before .before in
     let some : 0 < s .args .cursor .left = omega arith in
-    let step = c .before .before .before .before .before .before .step-at .ensures in
-    let on = sym (c .before .before .before .before .go-on .ensures) ∙ c .before .before .after .given .1 in
+    let step = c .before .before .before .before .before .before .before .step-at .ensures in
+    let on = sym (c .before .before .before .before .before .go-on .ensures) ∙ c .before .before .before .after .given .1 in
     record {
       says =
-          rw (c .before .before .before .before .before .piece-of2 .ensures)
+          rw (c .before .before .before .before .before .before .piece-of2 .ensures)
           (sym (pieces-on (now (s .args .text)) (s .args .frame) (s .args .mode) (s .args .cursor) some step on));
       fresh = fresh-on (now (s .args .text)) (s .args .frame) (s .args .mode) (s .args .cursor) some step on (s .pre .1);
     }
@@ -76,5 +79,6 @@ next-piece-spec =
     enum-told
     enum-known-after
     sub-t14
+    add-t15
     returns-2
     returns-3)

@@ -16,6 +16,9 @@ low-requires c κs = search needs
 low-requires-2 : tie.Need-low-requires-2
 low-requires-2 c κs = search needs
 
+low-requires-3 : tie.Need-low-requires-3
+low-requires-3 c κs = search needs
+
 put4-requires : tie.Need-put4-requires
 put4-requires c κs = search needs
 
@@ -42,10 +45,10 @@ same-length c = search needs
 
 returns : tie.Need-returns
 returns c =
-    let s = c .before .before .before .before .before .before .before .before .before .before .before .before .before .before .before .before .before .before .before in
+    let s = c .before .before .before .before .before .before .before .before .before .before .before .before .before .before .before .before .before .before .before .before in
     let a = s .args in
-    error-laid (now (a .out)) (16 * a .n) (bareError (a .kind) (a .span)) (s .pre)
-    (rw (c .before .before .before .before .before .before .before .before .before .before .before .before .before .before .before .before .low .ensures, c .before .before .before .before .before .before .before .before .before .before .before .before .before .before .before .low2 .ensures) at (c .before .before .before .before .before .before .before .before .before .before .before .before .before .before .put4 .ensures))
+    error-laid (now (a .out)) (16 * a .n) (bareError (a .kind) (a .span) (a .piece)) (s .pre)
+    (rw (c .before .before .before .before .before .before .before .before .before .before .before .before .before .before .before .before .before .low .ensures, c .before .before .before .before .before .before .before .before .before .before .before .before .before .before .before .before .low2 .ensures, c .before .before .before .before .before .before .before .before .before .before .before .before .before .before .before .low3 .ensures) at (c .before .before .before .before .before .before .before .before .before .before .before .before .before .before .put4 .ensures))
     (c .before .before .before .before .before .before .before .before .before .before .put42 .ensures)
     (c .before .before .before .before .before .before .put43 .ensures)
     (c .before .before .put44 .ensures)
@@ -57,6 +60,7 @@ put-bare-error-spec =
     mul-k
     low-requires
     low-requires-2
+    low-requires-3
     put4-requires
     add-put4
     put4-requires-2

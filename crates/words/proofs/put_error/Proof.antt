@@ -18,6 +18,9 @@ low-requires c κs = search needs
 low-requires-2 : tie.Need-low-requires-2
 low-requires-2 c κs = search needs
 
+low-requires-3 : tie.Need-low-requires-3
+low-requires-3 c κs = search needs
+
 put4-requires : tie.Need-put4-requires
 put4-requires c κs = search needs
 
@@ -44,10 +47,10 @@ same-length c = search needs
 
 returns : tie.Need-returns
 returns c =
-    let s = c .before .before .before .before .before .before .before .before .before .before .before .before .before .before .before .before .before .before .before .before .before in
+    let s = c .before .before .before .before .before .before .before .before .before .before .before .before .before .before .before .before .before .before .before .before .before .before in
     let a = s .args in
     error-laid (now (a .out)) (16 * a .n) (a .«record») (s .pre)
-    (rw (c .before .before .before .before .before .before .before .before .before .before .before .before .before .before .before .before .low .ensures, c .before .before .before .before .before .before .before .before .before .before .before .before .before .before .before .low2 .ensures) at (c .before .before .before .before .before .before .before .before .before .before .before .before .before .before .put4 .ensures))
+    (rw (c .before .before .before .before .before .before .before .before .before .before .before .before .before .before .before .before .before .low .ensures, c .before .before .before .before .before .before .before .before .before .before .before .before .before .before .before .before .low2 .ensures, c .before .before .before .before .before .before .before .before .before .before .before .before .before .before .before .low3 .ensures) at (c .before .before .before .before .before .before .before .before .before .before .before .before .before .before .put4 .ensures))
     (c .before .before .before .before .before .before .before .before .before .before .put-span .ensures)
     (c .before .before .before .before .before .before .put-range .ensures)
     (c .before .before .put-span2 .ensures)
@@ -60,6 +63,7 @@ put-error-spec =
     cast-put4
     low-requires
     low-requires-2
+    low-requires-3
     put4-requires
     add-put-span
     put-span-requires

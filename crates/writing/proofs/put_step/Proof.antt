@@ -1,5 +1,6 @@
 -- `writing::put_step` meets its contract: each kind of step, its piece and its records.
 use borrow.Author.Needs.{needs}
+use native.Mathlib.Omega.{arith}
 use denote.Ref.{now}
 use Rattle.writing.proofs.Stepping.{stepped-end, stepped-stop, literal-room, stepped-literal, argument-room, stepped-placeholder}
 use Rattle.writing.proofs.put_step.Statement.{statement}
@@ -35,11 +36,17 @@ put-argument-requires c κs =
     let a = s .args in
     argument-room (now (a .text)) (a .frame) (rw (c .before .before .before .step2 .given .1) at (s .pre .1))
 
-one-more-requires-2 : tie.Need-one-more-requires-2
-one-more-requires-2 c κs = search needs
-
 put-faults-requires-2 : tie.Need-put-faults-requires-2
-put-faults-requires-2 c κs = let s = c .before .before .before .before .before .before .before .before .before .before .before .before .before in (s .pre .0, rw (c .one-more2 .ensures, ← c .before .before .before .before .before .before .before .before .step2 .given .1) (s .pre .1 .errors))
+put-faults-requires-2 c κs =
+    let s = c .before .before .before .before .before .before .before .before .before .before .before .before in
+    (s .pre .0, rw (← c .before .before .before .before .before .before .before .step2 .given .1) (s .pre .1 .errors))
+
+one-more-requires-2 : tie.Need-one-more-requires-2
+one-more-requires-2 c κs =
+    let s = c .before .before .before .before .before .before .before .before .before .before .before .before .before .before .before in
+    let a = s .args in
+    let room = argument-room (now (a .text)) (a .frame) (rw (c .before .before .before .before .before .before .before .before .before .before .step2 .given .1) at (s .pre .1)) in
+    omega (arith, room, s .good, c .before .before .put-faults2 .ensures .pieces)
 
 returns : tie.Need-returns
 returns c =
@@ -72,7 +79,7 @@ returns-4 : tie.Need-returns-4
 returns-4 c =
     let a = c .before .before .before .before .before .before .before .before .before .before .before .before .before .before .before .before .args in
     rw (c .before .before .before .before .before .before .before .before .before .before .before .step2 .given .1)
-    (stepped-placeholder (now (a .text)) (a .frame) (c .before .before .before .one-more2 .ensures) (c .before .before .before .before .before .before .before .put-argument .ensures) (c .before .before .put-faults2 .ensures))
+    (stepped-placeholder (now (a .text)) (a .frame) (c .before .before .before .before .before .before .before .put-argument .ensures) (c .before .before .before .put-faults2 .ensures) (c .one-more2 .ensures))
 
 pub put-step-spec : {M : Type 1} → statement M
 put-step-spec =
@@ -86,8 +93,8 @@ put-step-spec =
     one-more-requires
     enum-known-step-2
     put-argument-requires
-    one-more-requires-2
     put-faults-requires-2
+    one-more-requires-2
     returns
     same-length
     returns-2

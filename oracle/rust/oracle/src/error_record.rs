@@ -11,11 +11,14 @@ pub struct ErrorRecord<'e> {
     pub second: Option<&'e Range<usize>>,
     pub quoted: Option<Range<usize>>,
     pub suggestion: Option<&'e Range<usize>>,
+    /// How many pieces were listed when it was recorded.
+    pub piece: usize,
 }
 
 impl<'e> ErrorRecord<'e> {
-    /// The record of an error met in `text`, whose first byte has a span at `quote_offset`.
-    pub fn of(error: &'e ParseError, text: &str, quote_offset: usize) -> Self {
+    /// The record of an error met in `text`, whose first byte has a span at `quote_offset`, after
+    /// so many pieces.
+    pub fn of(error: &'e ParseError, text: &str, quote_offset: usize, piece: usize) -> Self {
         let kind = kind(error);
         ErrorRecord {
             kind,
@@ -23,8 +26,14 @@ impl<'e> ErrorRecord<'e> {
             second: error.secondary_label.as_ref().map(|(_, span)| span),
             quoted: quoted(kind, error, text, quote_offset),
             suggestion: suggestion(&error.suggestion),
+            piece,
         }
     }
+}
+
+/// Whether an error of this kind is put before those that are listed, and not behind them.
+pub fn is_front(error: &ParseError) -> bool {
+    matches!(kind(error), 4 | 5 | 8..=15)
 }
 
 /// The kind, by the suggestion where that is one kind's own (2, 5 and 9 share a description), else

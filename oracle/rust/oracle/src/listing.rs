@@ -42,8 +42,8 @@ impl Listing {
                 PieceRecord::Argument(bytes, argument) => self.argument(reading, bytes, argument),
             }
         }
-        for error in &reading.errors {
-            self.error(&ErrorRecord::of(error, reading.text, reading.quote_offset));
+        for (error, &piece) in reading.errors.iter().zip(&reading.pieces_before) {
+            self.error(&ErrorRecord::of(error, reading.text, reading.quote_offset, piece));
         }
         for place in &reading.places {
             self.word("place").span(place).end();
@@ -128,7 +128,8 @@ impl Listing {
         self.word("err").number(error.kind.into()).span(error.span);
         self.word("second").optional_span(error.second);
         self.word("quoted").optional_span(error.quoted.as_ref());
-        self.word("suggestion").optional_span(error.suggestion).end();
+        self.word("suggestion").optional_span(error.suggestion);
+        self.word("piece").number(error.piece).end();
     }
 
     /// `A B`, a byte range of the text.

@@ -1,6 +1,7 @@
 //! What the unchanged Rust reads in a text, up to the first `None` of its iterator.
 
 use crate::case::Case;
+use crate::error_record::is_front;
 use crate::ranges::range_of;
 use parse_format::{Argument, ParseError, ParseMode, Parser, Piece};
 use std::ops::Range;
@@ -19,6 +20,8 @@ pub struct Reading<'t> {
     pub quote_offset: usize,
     pub pieces: Vec<PieceRecord<'t>>,
     pub errors: Vec<ParseError>,
+    /// For each error, how many pieces were listed when it was recorded.
+    pub pieces_before: Vec<usize>,
     pub places: Vec<Range<usize>>,
     pub lines: Vec<Range<usize>>,
 }
@@ -30,12 +33,13 @@ impl<'t> Reading<'t> {
         let snippet = case.snippet.map(snippet_for_the_rust);
         let mut parser =
             Parser::new(text, style, snippet, case.appended_newline, parse_mode(case.mode));
-        let pieces = read_pieces(&mut parser, text);
+        let (pieces, pieces_before) = read_pieces(&mut parser, text);
         Reading {
             text,
             quote_offset: style.map_or(1, |hashes| hashes + 2),
             pieces,
             errors: parser.errors,
+            pieces_before,
             places: parser.arg_places,
             lines: parser.line_spans,
         }
@@ -65,18 +69,30 @@ fn snippet_for_the_rust(snippet: &[u8]) -> String {
     }
 }
 
-fn read_pieces<'t>(parser: &mut Parser<'t>, text: &'t str) -> Vec<PieceRecord<'t>> {
+/// The pieces, and for each error how many of them were listed before it: the parser is asked for
+/// one piece at a time, and what it has recorded by then is new since the piece before.
+fn read_pieces<'t>(parser: &mut Parser<'t>, text: &'t str) -> (Vec<PieceRecord<'t>>, Vec<usize>) {
     let mut pieces = Vec::new();
+    let mut pieces_before = Vec::new();
+    let mut fronts = 0;
     let mut start = 0;
-    while let Some(piece) = parser.next() {
+    loop {
+        let piece = parser.next();
+        // Those of the front all stand before those of the back.
+        let new_fronts = parser.errors.partition_point(is_front) - fronts;
+        let new_backs = parser.errors.len() - pieces_before.len() - new_fronts;
+        fronts += new_fronts;
+        // What is put at the front moves the others, which keep their numbers.
+        pieces_before.splice(0..0, std::iter::repeat_n(pieces.len(), new_fronts));
+        pieces_before.extend(std::iter::repeat_n(pieces.len(), new_backs));
         let end = place(parser, text);
         pieces.push(match piece {
-            Piece::Lit(literal) => PieceRecord::Literal(range_of(text, literal)),
-            Piece::NextArgument(argument) => PieceRecord::Argument(start..end, argument),
+            Some(Piece::Lit(literal)) => PieceRecord::Literal(range_of(text, literal)),
+            Some(Piece::NextArgument(argument)) => PieceRecord::Argument(start..end, argument),
+            None => return (pieces, pieces_before),
         });
         start = end;
     }
-    pieces
 }
 
 /// The byte at which the parser stands.

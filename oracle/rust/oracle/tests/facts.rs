@@ -78,7 +78,7 @@ fn diagnostic_mode_ends_lines_after_the_colon() {
 #[test]
 fn kind_5_comes_after_a_plain_question_mark_only() {
     let faults = records(FORMAT, "{:?#}", "err");
-    assert_eq!(faults[0], "err 5 4..5 second - quoted 3..4 suggestion 3..5");
+    assert_eq!(faults[0], "err 5 4..5 second - quoted 3..4 suggestion 3..5 piece 0");
     assert_eq!(kinds(FORMAT, "{:?#}"), [5, 2, 1]);
     assert_eq!(kinds(FORMAT, "{:x?#}"), [2, 1]);
 }
@@ -98,9 +98,9 @@ fn a_question_mark_before_something_else_is_passed_silently() {
 #[test]
 fn kind_8_quotes_the_word_after_the_colon_even_if_empty() {
     let word = records(FORMAT, "{?:ab}", "err");
-    assert_eq!(word[0], "err 8 2..3 second - quoted 3..5 suggestion -");
+    assert_eq!(word[0], "err 8 2..3 second - quoted 3..5 suggestion - piece 0");
     let empty = records(FORMAT, "{?:}", "err");
-    assert_eq!(empty[0], "err 8 2..3 second - quoted 3..3 suggestion -");
+    assert_eq!(empty[0], "err 8 2..3 second - quoted 3..3 suggestion - piece 0");
 }
 
 #[test]
@@ -142,9 +142,9 @@ fn an_empty_type_is_where_reading_stood() {
 
 #[test]
 fn spans_lack_the_quote_offset_at_the_end_of_the_text() {
-    assert_eq!(records(FORMAT, "{_", "err")[0], "err 6 2..2 second - quoted - suggestion -");
-    assert_eq!(records(FORMAT, "{65536", "err")[0], "err 7 2..6 second - quoted 1..6 suggestion -");
-    assert_eq!(records(FORMAT, "{r#a", "err")[0], "err 4 2..4 second - quoted - suggestion 2..4");
+    assert_eq!(records(FORMAT, "{_", "err")[0], "err 6 2..2 second - quoted - suggestion - piece 0");
+    assert_eq!(records(FORMAT, "{65536", "err")[0], "err 7 2..6 second - quoted 1..6 suggestion - piece 0");
+    assert_eq!(records(FORMAT, "{r#a", "err")[0], "err 4 2..4 second - quoted - suggestion 2..4 piece 0");
 }
 
 /// The width and the precision of the only argument of a plain text, each as `COUNT SPAN`.
@@ -190,6 +190,18 @@ fn front_errors_stand_in_reverse_and_back_errors_follow() {
 }
 
 #[test]
+fn an_error_has_the_number_of_pieces_before_its_own() {
+    let before = |line: &String| line.rsplit(' ').next().and_then(|piece| piece.parse().ok());
+    let pieces = |text| -> Vec<usize> {
+        records(FORMAT, text, "err").iter().map(|line| before(line).expect("a number")).collect()
+    };
+    assert_eq!(pieces("{foo?}"), [0, 0, 1]);
+    assert_eq!(pieces("{:x5}"), [0, 2]);
+    assert_eq!(pieces("{a.b}{c.d}"), [1, 0, 0, 1]);
+    assert_eq!(pieces("x{_}"), [1]);
+}
+
+#[test]
 fn a_source_literal_is_the_built_string_exactly() {
     let matching = Draft {
         style: Some(1),
@@ -212,7 +224,7 @@ fn a_snippet_that_is_too_short_or_not_utf8_ends_at_its_length() {
         let draft =
             Draft { style: Some(1), snippet: Some(snippet.to_vec()), ..Draft::plain(FORMAT, "{") };
         let end = snippet.len();
-        let fault = format!("err 3 {end}..{end} second 3..4 quoted - suggestion -");
+        let fault = format!("err 3 {end}..{end} second 3..4 quoted - suggestion - piece 0");
         assert_eq!(lines_with(&listing_of(&draft), "err"), [fault]);
     }
 }

@@ -32,8 +32,8 @@ fn outline(reading: &Reading<'_>) -> Outline {
             vec![bytes.clone(), type_range(reading.text, bytes.start, argument)]
         }
     });
-    let errors = reading.errors.iter().map(|error| {
-        let record = ErrorRecord::of(error, reading.text, reading.quote_offset);
+    let errors = reading.errors.iter().zip(&reading.pieces_before).map(|(error, &piece)| {
+        let record = ErrorRecord::of(error, reading.text, reading.quote_offset, piece);
         (record.kind, record.quoted)
     });
     (pieces.collect(), errors.collect())
@@ -72,7 +72,7 @@ fn the_pieces_cover_the_text_up_to_the_end_or_a_lone_brace() {
 fn a_quoted_character_is_the_one_in_the_description() {
     for_readings(13, &[], |_, reading| {
         for error in &reading.errors {
-            let record = ErrorRecord::of(error, reading.text, reading.quote_offset);
+            let record = ErrorRecord::of(error, reading.text, reading.quote_offset, 0);
             let Some(quoted) = record.quoted else { continue };
             let quoted = &reading.text[quoted];
             match record.kind {

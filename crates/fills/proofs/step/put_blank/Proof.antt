@@ -9,7 +9,7 @@ use Rattle.fills.proofs.step.put_blank.Tie as tie
 returns : tie.Need-returns
 returns c =
     let a = c .before .before .before .args in
-    blank-none (now (a .text)) (a .frame) (a .high) (now (a .errors)) (a .blank) (a .from) (a .to) (not-true _ (c .if1 .taken))
+    blank-none (now (a .text)) (a .frame) (a .high) (now (a .errors)) (a .blank) (a .from) (a .to) (a .piece) (not-true _ (c .if1 .taken))
 
 span-between-requires : tie.Need-span-between-requires
 span-between-requires c κs = c .before .before .before .pre .0
@@ -18,7 +18,7 @@ put-bare-error-requires : tie.Need-put-bare-error-requires
 put-bare-error-requires c κs =
     let s = c .before .before .before .before .before in
     let a = s .args in
-    blank-room (now (a .text)) (a .frame) (a .high) (now (a .errors)) (a .blank) (a .from) (a .to) (not-false _ (c .before .before .if1 .left)) (s .pre .1)
+    blank-room (now (a .text)) (a .frame) (a .high) (now (a .errors)) (a .blank) (a .from) (a .to) (a .piece) (not-false _ (c .before .before .if1 .left)) (s .pre .1)
 
 add-result : tie.Need-add-result
 add-result c = search needs
@@ -29,7 +29,7 @@ same-length c = c .before .errors .given
 returns-2 : tie.Need-returns-2
 returns-2 c =
     let a = c .before .before .before .before .before .before .before .before .args in
-    blank-one (now (a .text)) (a .frame) (a .high) (now (a .errors)) (a .blank) (a .from) (a .to) (not-false _ (c .before .before .before .before .before .if1 .left)) (c .before .before .before .before .span-between .ensures) (c .before .before .put-bare-error .ensures)
+    blank-one (now (a .text)) (a .frame) (a .high) (now (a .errors)) (a .blank) (a .from) (a .to) (a .piece) (not-false _ (c .before .before .before .before .before .if1 .left)) (c .before .before .before .before .span-between .ensures) (c .before .before .put-bare-error .ensures)
 
 pub put-blank-spec : {M : Type 1} → statement M
 put-blank-spec = tie.close (tie.spec returns span-between-requires put-bare-error-requires add-result same-length returns-2)

@@ -9,19 +9,19 @@ put-blank-requires : tie.Need-put-blank-requires
 put-blank-requires c κs =
     let s = c .before .before .before .before .before .before .before .before in
     let a = s .args in
-    (s .pre .0, place-room (now (a .text)) (a .frame) (a .high) (now (a .errors)) (a .at) (a .told) (s .pre .1))
+    (s .pre .0, place-room (now (a .text)) (a .frame) (a .high) (now (a .errors)) (a .at) (a .told) (a .piece) (s .pre .1))
 
 put-blank-requires-2 : tie.Need-put-blank-requires-2
 put-blank-requires-2 c κs =
     let s = c .before .before .before .before .before .before .before .before .before .before .before .before in
     let a = s .args in
-    (s .pre .0, width-room (now (a .text)) (a .frame) (a .high) (now (a .errors)) (a .at) (a .told) (s .pre .1) (c .before .before .before .put-blank .ensures))
+    (s .pre .0, width-room (now (a .text)) (a .frame) (a .high) (now (a .errors)) (a .at) (a .told) (a .piece) (s .pre .1) (c .before .before .before .put-blank .ensures))
 
 put-blank-requires-3 : tie.Need-put-blank-requires-3
 put-blank-requires-3 c κs =
     let s = c .before .before .before .before .before .before .before .before .before .before .before .before .before .before .before .before in
     let a = s .args in
-    (s .pre .0, type-room (now (a .text)) (a .frame) (a .high) (now (a .errors)) (a .at) (a .told) (s .pre .1) (c .before .before .before .before .before .before .before .put-blank .ensures) (c .before .before .before .put-blank2 .ensures))
+    (s .pre .0, type-room (now (a .text)) (a .frame) (a .high) (now (a .errors)) (a .at) (a .told) (a .piece) (s .pre .1) (c .before .before .before .before .before .before .before .put-blank .ensures) (c .before .before .before .put-blank2 .ensures))
 
 same-length : tie.Need-same-length
 same-length c = c .before .errors3 .given ∙ c .before .before .before .before .before .errors2 .given ∙ c .before .before .before .before .before .before .before .before .before .errors .given
@@ -29,7 +29,7 @@ same-length c = c .before .errors3 .given ∙ c .before .before .before .before 
 returns : tie.Need-returns
 returns c =
     let a = c .before .before .before .before .before .before .before .before .before .before .before .before .before .before .before .before .before .before .before .args in
-    blanks-noted (now (a .text)) (a .frame) (a .high) (now (a .errors)) (a .at) (a .told) (c .before .before .before .before .before .before .before .before .before .before .put-blank .ensures) (c .before .before .before .before .before .before .put-blank2 .ensures) (c .before .before .put-blank3 .ensures)
+    blanks-noted (now (a .text)) (a .frame) (a .high) (now (a .errors)) (a .at) (a .told) (a .piece) (c .before .before .before .before .before .before .before .before .before .before .put-blank .ensures) (c .before .before .before .before .before .before .put-blank2 .ensures) (c .before .before .put-blank3 .ensures)
 
 pub put-blanks-spec : {M : Type 1} → statement M
 put-blanks-spec = tie.close (tie.spec put-blank-requires put-blank-requires-2 put-blank-requires-3 same-length returns)

@@ -48,42 +48,41 @@ put-told-requires c κs =
 after-told-requires : tie.Need-after-told-requires
 after-told-requires c κs = c .before .before .before .before .before .before .before .before .before .before .before .before .before .pre .1
 
-one-more-requires : tie.Need-one-more-requires
-one-more-requires c κs =
-    let s = c .before .before .before .before .before .before .before .before .before .before .before .before .before .before .before in
-    let a = s .args in
-    let step = step-told (now (a .text)) (a .frame) (a .state) _ (s .pre .4) (s .pre .3) (λ e. c .before .before .before .before .before .before .before .before .if1 .left (c .before .before .before .before .before .before .before .before .before .byte .ensures ∙ e)) (c .before .before .before .before .before .before .before .tell .ensures) (c .before .before .before .before .before .before .if2 .taken) in
-    let room = argument-room (now (a .text)) (a .frame) (rw (c .before .before .before .before .before .before .before .before .before .before .enum-told .given .1, ← step) at (s .pre .2)) in
-    omega (arith, s .good)
-
 put-wrongs-requires : tie.Need-put-wrongs-requires
 put-wrongs-requires c κs =
-    let s = c .before .before .before .before .before .before .before .before .before .before .before .before .before .before .before .before in
+    let s = c .before .before .before .before .before .before .before .before .before .before .before .before .before .before .before in
     let a = s .args in
-    let told = c .before .before .before .before .before .before .before .before .tell .ensures in
-    let step = step-told (now (a .text)) (a .frame) (a .state) _ (s .pre .4) (s .pre .3) (λ e. c .before .before .before .before .before .before .before .before .before .if1 .left (c .before .before .before .before .before .before .before .before .before .before .byte .ensures ∙ e)) told (c .before .before .before .before .before .before .before .if2 .taken) in
-    let room = rw (c .before .before .before .before .before .before .before .before .before .before .before .enum-told .given .1, ← step) at (s .pre .2) in (
+    let told = c .before .before .before .before .before .before .before .tell .ensures in
+    let step = step-told (now (a .text)) (a .frame) (a .state) _ (s .pre .4) (s .pre .3) (λ e. c .before .before .before .before .before .before .before .before .if1 .left (c .before .before .before .before .before .before .before .before .before .byte .ensures ∙ e)) told (c .before .before .before .before .before .before .if2 .taken) in
+    let room = rw (c .before .before .before .before .before .before .before .before .before .before .enum-told .given .1, ← step) at (s .pre .2) in (
       s .pre .0,
       omega (arith, s .pre .0 .text, s .pre .4),
-      omega (arith, s .pre .0 .text, told .reached (c .before .before .before .before .before .before .before .if2 .taken)),
-      rw (c .one-more .ensures) (told-room (now (a .text)) (a .frame) (a .state .at .0) (a .state .next) (c .before .before .before .before .before .before .before .before .tell .result) room),
+      omega (arith, s .pre .0 .text, told .reached (c .before .before .before .before .before .before .if2 .taken)),
+      told-room (now (a .text)) (a .frame) (a .state .at .0) (a .state .next) (c .before .before .before .before .before .before .before .tell .result) room,
     )
+
+one-more-requires : tie.Need-one-more-requires
+one-more-requires c κs =
+    let s = c .before .before .before .before .before .before .before .before .before .before .before .before .before .before .before .before .before .before in
+    let a = s .args in
+    let step = step-told (now (a .text)) (a .frame) (a .state) _ (s .pre .4) (s .pre .3) (λ e. c .before .before .before .before .before .before .before .before .before .before .before .if1 .left (c .before .before .before .before .before .before .before .before .before .before .before .before .byte .ensures ∙ e)) (c .before .before .before .before .before .before .before .before .before .before .tell .ensures) (c .before .before .before .before .before .before .before .before .before .if2 .taken) in
+    let room = argument-room (now (a .text)) (a .frame) (rw (c .before .before .before .before .before .before .before .before .before .before .before .before .before .enum-told .given .1, ← step) at (s .pre .2)) in
+    omega (arith, s .good, c .before .before .put-wrongs .ensures .pieces)
 
 same-length-3 : tie.Need-same-length-3
 same-length-3 c = c .before .before .before .before .before .before .before .pieces2 .given
 
 same-length-4 : tie.Need-same-length-4
-same-length-4 c = c .before .errors2 .given
+same-length-4 c = c .before .before .errors2 .given
 
 returns-2 : tie.Need-returns-2
 returns-2 c =
     let s = c .before .before .before .before .before .before .before .before .before .before .before .before .before .before .before .before .before .before .before in
     let a = s .args in
     let step = step-told (now (a .text)) (a .frame) (a .state) _ (s .pre .4) (s .pre .3) (λ e. c .before .before .before .before .before .before .before .before .before .before .before .before .if1 .left (c .before .before .before .before .before .before .before .before .before .before .before .before .before .byte .ensures ∙ e)) (c .before .before .before .before .before .before .before .before .before .before .before .tell .ensures) (c .before .before .before .before .before .before .before .before .before .before .if2 .taken) in
-    let wrongs = rw (c .before .before .before .one-more .ensures) at (c .before .before .put-wrongs .ensures) in
     rw (c .before .before .before .before .before .before .before .before .before .before .before .before .before .before .enum-told .given .1)
     (stepped-on (now (a .text)) (a .frame) Mode.Format (a .state) step
-    (stepped-told (now (a .text)) (a .frame) (a .state .at .0) (a .state .next) (c .before .before .before .before .before .before .before .before .before .before .before .tell .result) (c .before .before .before .before .before .before .before .before .put-told .ensures) wrongs)
+    (stepped-told (now (a .text)) (a .frame) (a .state .at .0) (a .state .next) (c .before .before .before .before .before .before .before .before .before .before .before .tell .result) (c .before .before .before .before .before .before .before .before .put-told .ensures) (c .before .before .before .put-wrongs .ensures) (c .one-more .ensures))
     (told-on (now (a .text)) (a .frame) (a .state) (c .before .before .before .before .before .before .before .before .before .before .before .tell .result) (c .before .before .before .before .before .after-told .ensures)))
 
 write-step-requires-2 : tie.Need-write-step-requires-2
@@ -143,8 +142,8 @@ write-brace-spec =
     tell-requires
     put-told-requires
     after-told-requires
-    one-more-requires
     put-wrongs-requires
+    one-more-requires
     same-length-3
     same-length-4
     returns-2

@@ -3,7 +3,7 @@
 -- Assumes nothing.
 use mathlib.Core.Path.{_≡_, refl, sym, ap, subst, _∙_}
 use Prim.Native.Nat.{ℕ, suc, _<_, _≤_, _^_, _+_, _*_, _-_}
-use native.Mathlib.Nat.{zero-add}
+use native.Mathlib.Nat.{zero-add, mul-le-mul-right}
 use native.Mathlib.Omega.{arith}
 use mathlib.Core.Bool.{not}
 use mathlib.Core.List.{[], _∷_, List}
@@ -35,7 +35,7 @@ use denote.Builtin.{usize}
 use denote.Ref.{RefT}
 use denote.Slice.{sliceTy, sliceVal, MutSlice, Room, heres, codedHoleys, at-slice, slice-vals, mut-slice-tells}
 use denote.Lend.{Held}
-use denote.Memory.{cellAt, pointee}
+use denote.Memory.{cellAt, pointee, mem as laid-out}
 use denote.Index.{place, place-is, row, elem-out, elem-back, elem-put, opens-slice, closes-slice}
 use denote.Steps.{owned, nothing}
 use denote.Struct.Laws as LL
@@ -59,6 +59,10 @@ use Rattle.reader.proofs.lists.insert_front.Code.Mir as M′
 
 abbrev R : RattleType
 R = T.the-row
+
+-- how many bytes a record takes
+abbrev bytes : ℕ
+bytes = laid-out T.the-row .size
 
 -- the code of a turn after its test
 abbrev more-code : Body
@@ -96,8 +100,11 @@ module _ {M : Type 1} (𝓤 : URA M) (H : Heap 𝓤) (A : Atoms 𝓤) (W : Given
   next-fits : n + 1 < 2 ^ 64
   next-fits = let h : length ys < 2 ^ 64 = room .0 in omega arith
 
-  byte-fits : (i : ℕ) → i ≤ n → i * 96 < 2 ^ 64
-  byte-fits i le = let h : length ys * 96 < 2 ^ 63 = room .1 in omega arith
+  byte-fits : (i : ℕ) → i ≤ n → i * bytes < 2 ^ 64
+  byte-fits i le =
+      let most : i * bytes ≤ length ys * bytes = mul-le-mul-right bytes (omega (arith, le, inside)) in
+      let h : length ys * bytes < 2 ^ 63 = room .1 in
+      omega (arith, most, h)
 
   exits : (zs : List ErrorRecord) → length zs ≡ length ys → zs ≡ inFront ys n e
       → ent 𝓤 (⋆ 𝓤 H A (‵ (fobs γ (codedHoleys R .code (heres R zs))) ∷ ‵ (fbor κ (Held R (length zs) b o γ)) ∷ ‵ (flft κ q) ∷ ‵ Rest ∷ [])) (Post (vint w64 (n + 1)))
@@ -161,21 +168,21 @@ module _ {M : Type 1} (𝓤 : URA M) (H : Heap 𝓤) (A : Atoms 𝓤) (W : Given
           assigns ! (bin ! (load ! (from ! (stop !)) (look ! 16 refl)) (lit ! tt) (some-left pos)) (from ! (stop !)) (init ! 14 refl (tt, record { fits = j-fits })) $
           assigns ! (bin ! (load ! (from ! (stop !)) (look ! 14 refl)) (lit ! tt) (record { fits = byte-fits j j-low })) (from ! (stop !)) (init ! 10 refl (tt, record { fits = byte-fits j j-low })) $
           assigns ! (bin ! (load ! (from ! (fld ! refl (stop !))) (look-in ! 22 (sub ! 0 refl (whole !)))) (load ! (from ! (stop !)) (look ! 10 refl)) tt) (from ! (stop !)) (init ! 8 refl (tt, tt)) $
-          rewrite ! 8 (λ (p : ℕ). ‵ (fat fullShare tyPtr l₈ 0 (vptr b p))) (sym (place-is 96 o j)) refl $
+          rewrite ! 8 (λ (p : ℕ). ‵ (fat fullShare tyPtr l₈ 0 (vptr b p))) (sym (place-is bytes o j)) refl $
           -- element i - 1 is read
           move ! (26 ∷ []) $ elem-out ! R (Is R) (shows 𝓤 H A R) (LL.vals T.the-type T′.the-laws) (LL.tells T.the-type T′.the-laws) fullShare (u .cur) j e b o j-in (λ isj.
-          use1 W (‵ (fat fullShare T′.mir b (place 96 o j) (val y))) (W .laws .raw-at fullShare T′.mir b (place 96 o j) (val y)) $
+          use1 W (‵ (fat fullShare T′.mir b (place bytes o j) (val y))) (W .laws .raw-at fullShare T′.mir b (place bytes o j) (val y)) $
           assigns ! (of-opd ! (load ! (from ! (hop ! (look ! 11 refl) (stop !))) (look ! 0 refl))) (from ! (stop !)) (init ! 9 refl (typed y isj)) $
-          use1 W (‵ (cellAt fullShare (R .mir) (val y ∷ []) b (place 96 o j))) (W .laws .at-raw fullShare T′.mir b (place 96 o j) (val y)) $
+          use1 W (‵ (cellAt fullShare (R .mir) (val y ∷ []) b (place bytes o j))) (W .laws .at-raw fullShare T′.mir b (place bytes o j) (val y)) $
           elem-back ! R fullShare (u .cur) j e (val y ∷ []) b o j-in $
           -- and stored at i
           assigns ! (bin ! (load ! (from ! (stop !)) (look ! 17 refl)) (lit ! tt) (record { fits = byte-fits (u .i) (u .low) })) (from ! (stop !)) (init ! 5 refl (tt, record { fits = byte-fits (u .i) (u .low) })) $
           assigns ! (bin ! (load ! (from ! (fld ! refl (stop !))) (look-in ! 23 (sub ! 0 refl (whole !)))) (load ! (from ! (stop !)) (look ! 5 refl)) tt) (from ! (stop !)) (init ! 3 refl (tt, tt)) $
-          rewrite ! 3 (λ (p : ℕ). ‵ (fat fullShare tyPtr l₁₁ 0 (vptr b p))) (sym (place-is 96 o (u .i))) refl $
+          rewrite ! 3 (λ (p : ℕ). ‵ (fat fullShare tyPtr l₁₁ 0 (vptr b p))) (sym (place-is bytes o (u .i))) refl $
           elem-out ! R (Is R) (shows 𝓤 H A R) (LL.vals T.the-type T′.the-laws) (LL.tells T.the-type T′.the-laws) fullShare (u .cur) (u .i) e b o i-in (λ _.
-          use1 W (‵ (fat fullShare T′.mir b (place 96 o (u .i)) (val (getD (u .cur) (u .i) e)))) (W .laws .raw-at fullShare T′.mir b (place 96 o (u .i)) (val (getD (u .cur) (u .i) e))) $
+          use1 W (‵ (fat fullShare T′.mir b (place bytes o (u .i)) (val (getD (u .cur) (u .i) e)))) (W .laws .raw-at fullShare T′.mir b (place bytes o (u .i)) (val (getD (u .cur) (u .i) e))) $
           assigns ! (of-opd ! (load ! (from ! (stop !)) (look ! 9 refl))) (from ! (hop ! (look ! 5 refl) (stop !))) (store ! 0 refl (typed y isj)) $
-          use1 W (‵ (cellAt fullShare (R .mir) (val y ∷ []) b (place 96 o (u .i)))) (W .laws .at-raw fullShare T′.mir b (place 96 o (u .i)) (val y)) $
+          use1 W (‵ (cellAt fullShare (R .mir) (val y ∷ []) b (place bytes o (u .i)))) (W .laws .at-raw fullShare T′.mir b (place bytes o (u .i)) (val y)) $
           move ! (1 ∷ []) $ drop ! $ owned ! R (Is R) (LL.makes T.the-type T′.the-plain 𝓤 H A) y _ isj $ move ! (1 ∷ 0 ∷ []) $ elem-put ! R fullShare (u .cur) (u .i) y (val y ∷ []) b o i-in $
           assigns-last ! (of-opd ! (load ! (from ! (stop !)) (look ! 15 refl))) (from ! (stop !)) (store ! 17 refl (tt, record { fits = j-fits })) $
           forget ! 3 refl $ forget ! 5 refl $ forget ! 7 refl $ forget ! 9 refl $ forget ! 11 refl $ forget ! 13 refl $ forget ! 15 refl $

@@ -1,0 +1,1 @@
+// Where an editor scrolls for an error: the law, in specs/. No code.
