@@ -34,7 +34,8 @@ enum {
     NITAREHPU_ERRORS = 7,      /* the list of errors is */
     NITAREHPU_PLACES = 8,      /* the list of argument places is */
     NITAREHPU_LINES = 9,       /* the list of line spans is */
-    NITAREHPU_NO_ANSWER = 255  /* the answer's list has no room for its six numbers: nothing was read, and nothing is written */
+    NITAREHPU_NOT_FORMAT = 17, /* nitarehpu_member alone, after 1: the mode is 1 or 2 */
+    NITAREHPU_NO_ANSWER = 255  /* the answer's list has no room for its six numbers (nitarehpu_member: four): nothing was read, and nothing is written */
 };
 
 /* The answer's six numbers: which of the above, the place (of 4, else 0), and how many records each list needs (for 0 and 6 to 9, else 0). */
@@ -150,6 +151,24 @@ uint8_t nitarehpu_read(const uint8_t *text, size_t text_length, const uint8_t *s
 /* Says how many records each list of the same call would need, with the same refusals 1 to 5 and 255. One reading, which only counts. */
 uint8_t nitarehpu_count(const uint8_t *text, size_t text_length, const uint8_t *snippet, size_t snippet_length, uint8_t mode, uint8_t style,
                         size_t hashes, uint8_t given, uint8_t newline, size_t *answer, size_t answer_length);
+
+/* The rules of member templates, in their order. docs/RULES.md, section 13, has each in full. */
+enum {
+    NITAREHPU_RULE_ERROR = 1,   /* the text is not read without error; the piece is 0 */
+    NITAREHPU_RULE_UNNAMED = 2, /* a place is no name */
+    NITAREHPU_RULE_TAKEN = 3,   /* a width or precision is taken from an argument, a star or a name */
+    NITAREHPU_RULE_NUMBER = 4,  /* a second place is called number; or none is, and the piece is the number of pieces */
+    NITAREHPU_RULE_DATE = 5     /* a place called date stands before the one called number */
+};
+
+/* The verdict's four numbers: a refusal's number and its place (of 4, else 0); the first rule that is broken, and the first piece that breaks it, counted
+ * from 0. What a verdict does not have is 0: a member template gets four times 0. */
+enum { NITAREHPU_VERDICT_NUMBERS = 4 };
+
+/* Says whether a text is a member template, and if not, why. The arguments are those of nitarehpu_read without its lists of records; `answer` gets the four
+ * numbers. Returns the first of them: refusals 1, 17, 2 to 5 and 255. One reading, which keeps no record and ends at the first error. */
+uint8_t nitarehpu_member(const uint8_t *text, size_t text_length, const uint8_t *snippet, size_t snippet_length, uint8_t mode, uint8_t style,
+                         size_t hashes, uint8_t given, uint8_t newline, size_t *answer, size_t answer_length);
 
 #ifdef __cplusplus
 }

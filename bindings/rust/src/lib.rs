@@ -95,6 +95,53 @@ pub fn parse(
     }
 }
 
+/// The verdict on a text that is to be a member template.
+#[derive(Clone, Copy, Debug, PartialEq, Eq)]
+pub enum Verdict {
+    /// It is one.
+    Yes,
+    /// The first rule that it breaks, and the first piece that breaks it, counted from 0.
+    Broken(Rule, usize),
+}
+
+/// The rules of member templates, in their order.
+#[derive(Clone, Copy, Debug, PartialEq, Eq)]
+pub enum Rule {
+    /// The text has an error; the piece is 0.
+    Error,
+    /// A place is no name.
+    Unnamed,
+    /// A width or precision is taken from an argument, a star or a name.
+    Taken,
+    /// A second place is called `number`; or none is, and the piece is the number of pieces.
+    Number,
+    /// A place called `date` stands before the one called `number`.
+    Date,
+}
+
+/// Whether a text is a member template: a Format text without error, whose places are all names, of which `number` is one, once, and `date` only after it, and
+/// whose widths and precisions are written numbers.
+///
+/// ```
+/// use nitarehpu::{Rule, Verdict, member};
+/// assert_eq!(member("{number} of {date}"), Ok(Verdict::Yes));
+/// assert_eq!(member("{moisture:.1} {date} {number}"), Ok(Verdict::Broken(Rule::Date, 2)));
+/// ```
+pub fn member(text: &str) -> Result<Verdict, Refused> {
+    let request = raw::Request { mode: ParseMode::Format as u8, style: None, snippet: None, newline: false };
+    let told = raw::member(text.as_bytes(), request);
+    match (told.number, told.rule) {
+        (0, 0) => Ok(Verdict::Yes),
+        (0, 1) => Ok(Verdict::Broken(Rule::Error, told.piece)),
+        (0, 2) => Ok(Verdict::Broken(Rule::Unnamed, told.piece)),
+        (0, 3) => Ok(Verdict::Broken(Rule::Taken, told.piece)),
+        (0, 4) => Ok(Verdict::Broken(Rule::Number, told.piece)),
+        (0, 5) => Ok(Verdict::Broken(Rule::Date, told.piece)),
+        (3, 0) => Err(Refused::Long),
+        other => unreachable!("a string with no style is not told {other:?}"),
+    }
+}
+
 /// Whether a call is done. Its text is UTF-8, its mode is one, and its lists, the answer's too, have room, so the other refusals do not come.
 fn accepted(answer: raw::Answer) -> Result<(), Refused> {
     match answer.number {

@@ -42,6 +42,20 @@ unsafe extern "C" {
         answer: *mut usize,
         answer_length: usize,
     ) -> u8;
+
+    fn nitarehpu_member(
+        text: *const u8,
+        text_length: usize,
+        snippet: *const u8,
+        snippet_length: usize,
+        mode: u8,
+        style: u8,
+        hashes: usize,
+        given: u8,
+        newline: u8,
+        answer: *mut usize,
+        answer_length: usize,
+    ) -> u8;
 }
 
 /// How a text is to be read, in the call's numbers.
@@ -129,4 +143,38 @@ pub fn count(text: &[u8], request: Request<'_>) -> Answer {
         );
     }
     answered(answer)
+}
+
+/// A verdict's numbers.
+#[derive(Clone, Copy, Debug, Default, PartialEq, Eq)]
+pub struct Told {
+    pub number: usize,
+    pub place: usize,
+    /// The broken rule, 1 to 5, or 0.
+    pub rule: usize,
+    pub piece: usize,
+}
+
+/// The verdict on a text: whether it is a member template.
+pub fn member(text: &[u8], request: Request<'_>) -> Told {
+    let snippet = request.snippet.unwrap_or_default();
+    let mut answer = [0; 4];
+    // SAFETY: as above.
+    unsafe {
+        nitarehpu_member(
+            text.as_ptr(),
+            text.len(),
+            snippet.as_ptr(),
+            snippet.len(),
+            request.mode,
+            u8::from(request.style.is_some()),
+            request.style.unwrap_or(0),
+            u8::from(request.snippet.is_some()),
+            u8::from(request.newline),
+            answer.as_mut_ptr(),
+            answer.len(),
+        );
+    }
+    let [number, place, rule, piece] = answer;
+    Told { number, place, rule, piece }
 }

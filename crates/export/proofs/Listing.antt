@@ -1,11 +1,10 @@
 -- What lists of numbers have room for, and what they hold at exit. Rests on Calls, Parts, and the laws of answer and reading.
 use Prim.Native.Nat.{ℕ, _*_, _≤_}
 use mathlib.Core.Path.{_≡_, refl, sym, _∙_}
-use mathlib.Core.Bool.{Bool, true, false, not}
+use mathlib.Core.Bool.{false}
 use mathlib.Core.List.{List, [], _∷_}
 use native.Mathlib.Omega.{arith}
 use borrow.Author.Tests.{eq-eqb, ne-eqb, le-ltb}
-use lib.Dec.{eqb}
 use lib.ListN.{length, set}
 use lib.Seq.{sets-eq}
 use Rattle.utf8.specs.Choice.{pick}
@@ -26,7 +25,7 @@ use Rattle.reading.specs.declared.Answer.{Answer}
 use Rattle.fills.specs.Filling.{Fills}
 use Rattle.words.specs.Calls.{piecesIn, errorsIn}
 use Rattle.fills.specs.declared.run.Filled.{Filled as Found}
-use Rattle.words.specs.Calls.{isYes, roomsIn, answerWords}
+use Rattle.words.specs.Calls.{roomsIn, answerWords}
 use Rattle.export.specs.Parts.{Roomy, Ample, Filled, ReadBy}
 
 -- an answer's six numbers, set one after the other
@@ -35,15 +34,6 @@ pub six : (l : List ℕ) (a : Answer) → 6 ≤ length l →
     over (answerWords a) l
 unfolding over answerWords
 six l a h = sets-eq (a .number ∷ a .place ∷ a .counts .pieces ∷ a .counts .errors ∷ a .counts .places ∷ a .counts .lines ∷ []) l 0 h
-
--- any mark but 0 is a yes
-pub yes : (n : ℕ) → not (eqb n 0) ≡ isYes n
-unfolding isYes pick
-yes n = go (eqb n 0)
-  where
-    go : (b : Bool) → not b ≡ pick b false true
-    go true = refl
-    go false = refl
 
 -- a list at exit, where the number is 0 and where it is not
 module _ (n : ℕ) (new old : List ℕ) where

@@ -6,40 +6,19 @@ use frame::Frame;
 use frame::Mode;
 use reading::Answer;
 use reading::Counts;
-use reading::Hashes;
 use reading::Request;
 use reading::Rooms;
 use spans::fill_lines;
 use spans::fill_places;
+use words::request::request_of;
 ghost use mathlib.Core.Path.{_≡_};
 ghost use mathlib.Core.Bool.{true};
 ghost use Prim.Native.Nat.{_≤_};
 ghost use lib.ListN.{length};
 ghost use Rattle.frame.specs.Bounds.{Small};
 ghost use Rattle.reading.specs.Written.{over};
-ghost use Rattle.words.specs.Calls.{Exported, Counted, styleOf, requestOf, roomsIn, answerWords};
+ghost use Rattle.words.specs.Calls.{Exported, Counted, requestOf, roomsIn, answerWords};
 ghost use Rattle.export.specs.Parts.{Roomy, Ample, Filled, ReadBy, Read};
-
-// How a text is to be read. Any mark but 0 is a yes.
-fn request_of(mode: u8, style: u8, hashes: usize, given: u8, newline: u8) -> Request
-    ensures { λ r. ⌜ r ≡ requestOf mode style hashes given newline ⌝ }
-{
-    Request {
-        mode,
-        style: style_of(style, hashes),
-        given: given != 0,
-        newline: newline != 0,
-    }
-}
-
-fn style_of(style: u8, hashes: usize) -> Hashes
-    ensures { λ r. ⌜ r ≡ styleOf style hashes ⌝ }
-{
-    if style == 0 {
-        return Hashes::Plain;
-    }
-    Hashes::Raw(hashes)
-}
 
 // The six numbers of an answer, over the first of a list.
 fn put_answer(out: &mut [usize], answer: Answer)

@@ -20,6 +20,8 @@ ghost use Rattle.words.specs.Laid.{laid};
 ghost use Rattle.words.specs.Layout.{lowOf, four, bitOf, alignOf, signOf, hexOf, numeralTag, numeralOf, placeTag, placeWords, fillWords, spanWords, countData, nameSpanEnd, countWords, rangeWords, argumentWords, zeros, literalWords, errorWords};
 ghost use Rattle.reading.specs.Records.{bareError};
 
+pub mod request; // request.rt: a request from the numbers of a call
+
 // A number's low 32 bits. No place, span or argument number of a reading has more.
 pub fn low(x: usize) -> u32
     ensures { λ r. ⌜ r ≡ lowOf x ⌝ }

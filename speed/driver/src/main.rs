@@ -139,6 +139,28 @@ fn short_texts(reader: &mut Reader) {
     println!();
 }
 
+/// A member template: its verdict beside its reading, in nanoseconds a call.
+fn member_template(reader: &mut Reader) {
+    let text = texts::member();
+    assert_eq!((text.bytes.len(), ours::verdict(&text.bytes)), (60, [0; 4]));
+    let [verdict, reading] = quickest(
+        ROUNDS,
+        1000,
+        [
+            &mut || {
+                black_box(ours::verdict(black_box(&text.bytes)));
+            },
+            &mut || {
+                black_box(reader.read(black_box(&text.bytes)));
+            },
+        ],
+    );
+    println!("| text, ns a call | its verdict | its reading |");
+    println!("|---|---|---|");
+    println!("| {} | {verdict:.2} | {reading:.2} |", text.name);
+    println!();
+}
+
 /// The stack that a call takes: the most over the texts.
 fn stack_of_a_call(reader: &mut Reader) {
     let mut texts = texts::large(SIZE);
@@ -163,6 +185,7 @@ fn main() -> std::io::Result<()> {
     large_texts(&mut reader);
     short_texts(&mut reader);
     front_errors(&mut reader);
+    member_template(&mut reader);
     stack_of_a_call(&mut reader);
     Ok(())
 }

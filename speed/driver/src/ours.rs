@@ -22,6 +22,28 @@ unsafe extern "C" {
         answer: *mut usize,
         answer_length: usize,
     ) -> u8;
+
+    fn nitarehpu_member(
+        text: *const u8,
+        text_length: usize,
+        snippet: *const u8,
+        snippet_length: usize,
+        mode: u8,
+        style: u8,
+        hashes: usize,
+        given: u8,
+        newline: u8,
+        answer: *mut usize,
+        answer_length: usize,
+    ) -> u8;
+}
+
+/// The verdict on a Format text without style or snippet: its four numbers.
+pub fn verdict(text: &[u8]) -> [usize; 4] {
+    let mut answer = [0; 4];
+    // SAFETY: each pointer goes with its own length, and the answer overlaps nothing.
+    unsafe { nitarehpu_member(text.as_ptr(), text.len(), text.as_ptr(), 0, 0, 0, 0, 0, 0, answer.as_mut_ptr(), answer.len()) };
+    answer
 }
 
 pub struct Reader {

@@ -38,6 +38,12 @@ pub fn short() -> Vec<Text> {
     ]
 }
 
+/// A member template of 60 bytes.
+pub fn member() -> Text {
+    let line = "Report {number} of {date}: {name:<9} {moisture:>5.1} % water";
+    Text { name: "a member template, 60 bytes", bytes: line.as_bytes().to_vec() }
+}
+
 /// A text that is refused for its last byte.
 pub fn broken(size: usize) -> Text {
     let mut bytes = repeated("The sample was stored at room temperature and read twice.\n", size);

@@ -35,7 +35,7 @@ impl<'t> Answer<'t> {
 }
 
 /// The text to read, or the first refusal of 1 to 5 with its place.
-fn readable_text<'t>(case: &Case<'t>) -> Result<&'t str, (u8, usize)> {
+pub fn readable_text<'t>(case: &Case<'t>) -> Result<&'t str, (u8, usize)> {
     if case.mode > 2 {
         return Err((1, 0));
     }

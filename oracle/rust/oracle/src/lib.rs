@@ -1,5 +1,5 @@
 //! What the programs share: cases and their stream, the Rust's answer to a case, its listing, its
-//! agreement with the grammar, joined texts, and the makers of cases.
+//! agreement with the grammar, joined texts, member templates, and the makers of cases.
 
 pub mod agreement;
 pub mod answer;
@@ -9,6 +9,7 @@ pub mod exit;
 pub mod joins;
 pub mod listing;
 pub mod make;
+pub mod members;
 pub mod pairs;
 pub mod ranges;
 pub mod reading;

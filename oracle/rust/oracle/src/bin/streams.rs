@@ -2,7 +2,7 @@
 
 use oracle::exit;
 use oracle::make::every::Every;
-use oracle::make::{bench, notices, numbers, random};
+use oracle::make::{bench, members, notices, numbers, random};
 use std::io::{self, BufWriter, Write};
 use std::process::ExitCode;
 
@@ -12,6 +12,7 @@ usage: streams all LENGTH ALPHABET [PREFIX]   every text up to LENGTH characters
                                               refused limits
        streams notices SEED COUNT             seeded Diagnostic source literals of several lines
        streams numbers SEED COUNT             seeded texts rich in numbers, up to 65,535 and beyond
+       streams members SEED COUNT             seeded texts rich in `number` and `date`
        streams bench                          B1 to B15
 In ALPHABET and PREFIX \\n is a newline, \\t a tabulator and \\\\ a backslash.";
 
@@ -45,6 +46,9 @@ fn make(words: &[&str], output: &mut impl Write) -> Option<io::Result<()>> {
         }
         ["numbers", seed, count] => {
             Some(numbers::write(seed.parse().ok()?, count.parse().ok()?, output))
+        }
+        ["members", seed, count] => {
+            Some(members::write(seed.parse().ok()?, count.parse().ok()?, output))
         }
         ["bench"] => Some(bench::cases().iter().try_for_each(|draft| draft.case().write(output))),
         _ => None,

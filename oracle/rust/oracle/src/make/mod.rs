@@ -1,10 +1,12 @@
-//! The makers of cases: every short text, the bench, seeded random cases, notices, and numbers.
+//! The makers of cases: every short text, the bench, seeded random cases, notices, numbers, and member
+//! templates.
 
 pub mod bench;
 pub mod dice;
 pub mod every;
 pub mod frames;
 pub mod limits;
+pub mod members;
 pub mod notices;
 pub mod numbers;
 pub mod random;

@@ -1,9 +1,9 @@
--- `export::style_of` meets its contract: the test is the definition's.
+-- `words::request::style_of` meets its contract: the test is the definition's.
 use borrow.Author.Tests.{eq-eqb, ne-eqb}
 use Rattle.utf8.specs.Choice.{pick}
 use Rattle.words.specs.Calls.{styleOf}
-use Rattle.export.proofs.style_of.Statement.{statement}
-use Rattle.export.proofs.style_of.Tie as tie
+use Rattle.words.proofs.request.style_of.Statement.{statement}
+use Rattle.words.proofs.request.style_of.Tie as tie
 
 returns : tie.Need-returns
 unfolding styleOf pick

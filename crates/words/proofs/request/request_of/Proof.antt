@@ -1,9 +1,9 @@
--- `export::request_of` meets its contract: the style is the definition's, and any mark but 0 is a yes.
+-- `words::request::request_of` meets its contract: the style is the definition's, and any mark but 0 is a yes.
 use borrow.Author.Needs.{needs}
 use Rattle.words.specs.Calls.{requestOf}
-use Rattle.export.proofs.Listing.{yes}
-use Rattle.export.proofs.request_of.Statement.{statement}
-use Rattle.export.proofs.request_of.Tie as tie
+use Rattle.words.proofs.Marks.{yes}
+use Rattle.words.proofs.request.request_of.Statement.{statement}
+use Rattle.words.proofs.request.request_of.Tie as tie
 
 style-of-requires : tie.Need-style-of-requires
 style-of-requires c κs = search needs

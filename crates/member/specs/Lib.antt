@@ -1,0 +1,2 @@
+-- What the functions of the run come to.
+pub mod Meetings
