@@ -35,11 +35,13 @@ enum {
     NITAREHPU_PLACES = 8,      /* the list of argument places is */
     NITAREHPU_LINES = 9,       /* the list of line spans is */
     NITAREHPU_NOT_FORMAT = 17, /* nitarehpu_member alone, after 1: the mode is 1 or 2 */
-    NITAREHPU_NO_ANSWER = 255  /* the answer's list has no room for its six numbers (nitarehpu_member: four): nothing was read, and nothing is written */
+    NITAREHPU_NO_ANSWER = 255  /* the answer's list has no room for its seven numbers (nitarehpu_member: four): nothing was read, and nothing is written */
 };
 
-/* The answer's six numbers: which of the above, the place (of 4, else 0), and how many records each list needs (for 0 and 6 to 9, else 0). */
-enum { NITAREHPU_ANSWER_NUMBERS = 6 };
+/* The answer's seven numbers: which of the above, the place (of 4, else 0), how many records each list needs (for 0 and 6 to 9, else 0), and how many
+ * arguments the pieces want (for 0, else 0): one more than the largest argument number in any piece's place, width, precision or star, 0 if none has a
+ * number. A number that is over range adds nothing. */
+enum { NITAREHPU_ANSWER_NUMBERS = 7 };
 
 /* Numbers of a record: a piece's 40 and an error's 16 are laid out as the structs below; a span of the snippet is 2: start, end. */
 enum { NITAREHPU_PIECE_NUMBERS = 40, NITAREHPU_ERROR_NUMBERS = 16, NITAREHPU_SPAN_NUMBERS = 2 };
@@ -136,7 +138,7 @@ typedef struct nitarehpu_error {
  *   style       0: none; any other: a raw string with `hashes` hashes
  *   newline     not 0: the text's last newline was appended to it
  *   pieces, errors, places, lines: the lists, with their lengths in numbers; a rest that is no whole record is left alone
- *   answer      gets the six numbers
+ *   answer      gets the seven numbers
  * Returns the first of the answer's numbers. Done fills the first records of each list, and the rest stay as they were.
  *
  * How often the text is read, once it is known to be UTF-8: once into pieces and errors, and once more where a record belongs to the front. A reading that

@@ -116,8 +116,8 @@ fn case(out: &mut impl Write, k: usize, head: &[u8], snippet: &[u8], text: &[u8]
     writeln!(out, "case {k}")?;
     writeln!(
         out,
-        "answer {} {} {} {} {} {}",
-        answer.number, answer.place, answer.pieces, answer.errors, answer.places, answer.lines
+        "answer {} {} {} {} {} {} arguments {}",
+        answer.number, answer.place, answer.pieces, answer.errors, answer.places, answer.lines, answer.arguments
     )?;
     if answer.number != 0 {
         return if store.is_zero() { Ok(()) } else { writeln!(out, "changed") };

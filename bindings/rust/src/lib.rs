@@ -33,6 +33,8 @@ pub struct Parsed {
     pub errors: Vec<ParseError>,
     pub arg_places: Vec<Range<usize>>,
     pub line_spans: Vec<Range<usize>>,
+    /// How many arguments the pieces want: one more than the largest argument number in any place, width, precision or star, 0 if there is none.
+    pub arguments: usize,
 }
 
 /// Why a text is not read.
@@ -161,5 +163,6 @@ fn parsed(text: &str, answer: raw::Answer, lists: &raw::Lists<'_>) -> Parsed {
         errors: lists.errors[..raw::ERROR * answer.errors].chunks_exact(raw::ERROR).map(records::error).collect(),
         arg_places: lists.places[..2 * answer.places].chunks_exact(2).map(range).collect(),
         line_spans: lists.lines[..2 * answer.lines].chunks_exact(2).map(range).collect(),
+        arguments: answer.arguments,
     }
 }

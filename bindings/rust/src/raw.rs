@@ -77,6 +77,8 @@ pub struct Answer {
     pub errors: usize,
     pub places: usize,
     pub lines: usize,
+    /// How many arguments the pieces want, of a call that is done.
+    pub arguments: usize,
 }
 
 /// The lent lists.
@@ -87,14 +89,14 @@ pub struct Lists<'a> {
     pub lines: &'a mut [usize],
 }
 
-fn answered([number, place, pieces, errors, places, lines]: [usize; 6]) -> Answer {
-    Answer { number, place, pieces, errors, places, lines }
+fn answered([number, place, pieces, errors, places, lines, arguments]: [usize; 7]) -> Answer {
+    Answer { number, place, pieces, errors, places, lines, arguments }
 }
 
 /// Reads a text into lent lists.
 pub fn read(text: &[u8], request: Request<'_>, lists: &mut Lists<'_>) -> Answer {
     let snippet = request.snippet.unwrap_or_default();
-    let mut answer = [0; 6];
+    let mut answer = [0; 7];
     // SAFETY: each pointer goes with its slice's length, and Rust's rules keep the slices that are written apart from all others.
     unsafe {
         nitarehpu_read(
@@ -125,7 +127,7 @@ pub fn read(text: &[u8], request: Request<'_>, lists: &mut Lists<'_>) -> Answer 
 /// How many records each list of a reading needs.
 pub fn count(text: &[u8], request: Request<'_>) -> Answer {
     let snippet = request.snippet.unwrap_or_default();
-    let mut answer = [0; 6];
+    let mut answer = [0; 7];
     // SAFETY: as above.
     unsafe {
         nitarehpu_count(

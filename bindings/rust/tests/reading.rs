@@ -95,6 +95,12 @@ fn a_source_literal_has_lines_and_places() {
 }
 
 #[test]
+fn a_text_says_how_many_arguments_it_wants() {
+    let wanted = |text: &str| parse(text, None, None, false, ParseMode::Format).expect("the text is read").arguments;
+    assert_eq!(["", "{a}", "{:.*} {} {}", "{7}{}", "{:1$}", "{65536}", "{a.}{}"].map(wanted), [0, 0, 4, 8, 2, 0, 2]);
+}
+
+#[test]
 fn a_diagnostic_type_is_any_text() {
     let parsed = parse("{name:any text }", None, None, false, ParseMode::Diagnostic).expect("the text is read");
     assert_eq!(arguments(&parsed)[0].format.ty, "any text ");

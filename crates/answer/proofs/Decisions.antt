@@ -26,7 +26,7 @@ module _ (t s : List ℕ) (q : Request) (d : Decision) where
       }
 
   -- a text that is not refused is admitted
-  pub admits : Admitted t s q d → length t ≤ 65535 → openAnswer t s q ≡ answered 0 0 noCounts → Opened t s q d
+  pub admits : Admitted t s q d → length t ≤ 65535 → openAnswer t s q ≡ answered 0 0 noCounts 0 → Opened t s q d
   admits x short g = record { answer = x .answer ∙ sym g; frame = λ _. x .frame; mode = λ _. x .mode; short = λ _. short }
 
 module _ (t s : List ℕ) (q : Request) (r : Rooms) {d : Decision} (x : Opened t s q d) where

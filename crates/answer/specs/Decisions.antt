@@ -11,7 +11,7 @@ use Rattle.answer.specs.declared.Decision.{Decision}
 
 -- what no refusal before the text is read leaves: nothing counted, and the frame and the mode of the call
 pub record Admitted (t s : List ℕ) (q : Request) (d : Decision) : Type 0 where
-  pub answer : d .answer ≡ answered 0 0 noCounts
+  pub answer : d .answer ≡ answered 0 0 noCounts 0
   pub frame : d .frame ≡ frameFor t s q
   pub mode : d .mode ≡ modeFor q
 

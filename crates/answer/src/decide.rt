@@ -10,6 +10,8 @@ use reading::Hashes;
 use reading::Request;
 use reading::Rooms;
 ghost use mathlib.Core.Path.{_≡_};
+ghost use lib.Dec.{eqb};
+ghost use Rattle.utf8.specs.Choice.{pick};
 ghost use Rattle.frame.specs.Bounds.{Small};
 ghost use Rattle.reading.specs.Answers.{noCounts, isStyled, styleOf, isLong, endsInNewline, lacksNewline, modeOf};
 ghost use Rattle.laws.specs.Deciding.{refusedAs, roomFor, countedBy};
@@ -36,6 +38,7 @@ fn refused(number: u8, place: usize) -> Decision
             number,
             place,
             counts,
+            arguments: 0,
         },
         frame: Frame {
             quote: 1,
@@ -135,16 +138,29 @@ pub fn room_for(counts: Counts, rooms: Rooms) -> u8
     0
 }
 
+// How many arguments are said to be wanted: none of a refusal.
+fn said(number: u8, arguments: usize) -> usize
+    ensures { λ r. ⌜ r ≡ pick (eqb number 0) arguments 0 ⌝ }
+{
+    if number == 0 {
+        return arguments;
+    }
+    0
+}
+
 // A text that is read: its counts tell whether the lists have room.
 fn counted(text: &[u8], frame: Frame, mode: Mode, rooms: Rooms) -> Answer
     requires { ⌜ Small (now text) frame ⌝ }
     ensures { λ r. ⌜ r ≡ countedBy (now (text .entry)) frame mode rooms ⌝ }
 {
-    let counts = tally::tally(text, frame, mode);
+    let told = tally::tally(text, frame, mode);
+    let counts = told.counts;
+    let number = room_for(counts, rooms);
     Answer {
-        number: room_for(counts, rooms),
+        number,
         place: 0,
         counts,
+        arguments: said(number, told.arguments),
     }
 }
 
@@ -162,6 +178,7 @@ fn admitted(text: &[u8], snippet: &[u8], request: Request) -> Decision
             number: 0,
             place: 0,
             counts,
+            arguments: 0,
         },
         frame,
         mode,

@@ -13,6 +13,7 @@ use Rattle.reading.specs.declared.Piece.{Piece}
 use Rattle.reading.specs.declared.ErrorRecord.{ErrorRecord}
 use Rattle.reading.specs.declared.Counts.{Counts}
 use Rattle.reading.specs.Answers.{frameFor, modeFor}
+use Rattle.reading.specs.Wants.{wants}
 use Rattle.laws.specs.Deciding.{Passed, answer-passed}
 use Rattle.laws.specs.BrokenLaws.{broken-exactly}
 use Rattle.laws.specs.ListLaws.{no-length, pairs-length}
@@ -39,6 +40,9 @@ module _ {t s : List ℕ} {q : Request} {ps ps′ : List Piece} {es es′ : List
 
   pub counts-are : r .counts ≡ countsOf t (frameFor t s q) (modeFor q)
   counts-are = ap (λ (a : Answer). a .counts) (x .answer) ∙ passed .counts
+
+  pub arguments-are : r .arguments ≡ wants (pieces t (frameFor t s q) (modeFor q))
+  arguments-are = ap (λ (a : Answer). a .arguments) (x .answer) ∙ passed .arguments
 
   -- each count is the length of its list, and a span of it takes two numbers at exit
   count-pieces : r .counts .pieces ≡ length (pieces t (frameFor t s q) (modeFor q))

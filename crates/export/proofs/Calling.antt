@@ -46,7 +46,7 @@ module _ (t s : List ℕ) (q : Request) (ps es ls ns : List ℕ) where
 
   module _ (out : List ℕ) where
     -- without room for the answer nothing is done
-    pub short-call : length out < 6 → Exported t s q ps ps es es ls ls ns ns out out 255
+    pub short-call : length out < 7 → Exported t s q ps ps es es ls ls ns ns out out 255
     unfolding isShort pick
     short-call h =
         let some : _≡_ {A = ℕ} 255 0 → ⊥ = λ z. omega arith in
@@ -60,7 +60,7 @@ module _ (t s : List ℕ) (q : Request) (ps es ls ns : List ℕ) where
         }
 
     -- with room the answer is written, and the lists are as reading leaves them
-    pub whole-call : {ps′ es′ ls′ ns′ out′ : List ℕ} {a : Answer} → 6 ≤ length out → Read t s q ps ps′ es es′ ls ls′ ns ns′ a →
+    pub whole-call : {ps′ es′ ls′ ns′ out′ : List ℕ} {a : Answer} → 7 ≤ length out → Read t s q ps ps′ es es′ ls ls′ ns ns′ a →
         out′ ≡ over (answerWords a) out → Exported t s q ps ps′ es es′ ls ls′ ns ns′ out out′ (a .number)
     unfolding isShort pick
     whole-call h x e =
@@ -75,11 +75,11 @@ module _ (t s : List ℕ) (q : Request) (ps es ls ns : List ℕ) where
 
 module _ (t s : List ℕ) (q : Request) (out : List ℕ) where
   -- and so it is with a count
-  pub short-count : length out < 6 → Counted t s q out out 255
+  pub short-count : length out < 7 → Counted t s q out out 255
   unfolding isShort pick
   short-count h = record { number = rw (lt-ltb _ _ h); answer = rw (lt-ltb _ _ h) }
 
-  pub whole-count : {out′ : List ℕ} {d : Decision} → 6 ≤ length out → Decided t s q wide d → out′ ≡ over (answerWords (d .answer)) out →
+  pub whole-count : {out′ : List ℕ} {d : Decision} → 7 ≤ length out → Decided t s q wide d → out′ ≡ over (answerWords (d .answer)) out →
       Counted t s q out out′ (d .answer .number)
   unfolding isShort pick
   whole-count h x e =

@@ -1,7 +1,7 @@
 -- What lists of numbers have room for, and what they hold at exit. Rests on Calls, Parts, and the laws of answer and reading.
 use Prim.Native.Nat.{ℕ, _*_, _≤_}
-use mathlib.Core.Path.{_≡_, refl, sym, _∙_}
-use mathlib.Core.Bool.{false}
+use mathlib.Core.Path.{_≡_, refl, sym, ap, _∙_}
+use mathlib.Core.Bool.{Bool, true, false, not}
 use mathlib.Core.List.{List, [], _∷_}
 use native.Mathlib.Omega.{arith}
 use borrow.Author.Tests.{eq-eqb, ne-eqb, le-ltb}
@@ -12,6 +12,7 @@ use Rattle.frame.specs.Bounds.{Small}
 use Rattle.frame.specs.declared.Frame.{Frame}
 use Rattle.frame.specs.declared.Mode.{Mode}
 use Rattle.reading.specs.Lists.{pieces, errors, places, lines, countsOf}
+use Rattle.reading.specs.Wants.{wants}
 use Rattle.laws.specs.ListLaws.{no-places, no-lines}
 use Rattle.laws.specs.RoomLaws.{few-pieces, few-errors}
 use Rattle.reading.specs.declared.Counts.{Counts}
@@ -28,12 +29,12 @@ use Rattle.fills.specs.declared.run.Filled.{Filled as Found}
 use Rattle.words.specs.Calls.{roomsIn, answerWords}
 use Rattle.export.specs.Parts.{Roomy, Ample, Filled, ReadBy}
 
--- an answer's six numbers, set one after the other
-pub six : (l : List ℕ) (a : Answer) → 6 ≤ length l →
-    set (set (set (set (set (set l 0 (a .number)) 1 (a .place)) 2 (a .counts .pieces)) 3 (a .counts .errors)) 4 (a .counts .places)) 5 (a .counts .lines) ≡
+-- an answer's seven numbers, set one after the other
+pub seven : (l : List ℕ) (a : Answer) → 7 ≤ length l →
+    set (set (set (set (set (set (set l 0 (a .number)) 1 (a .place)) 2 (a .counts .pieces)) 3 (a .counts .errors)) 4 (a .counts .places)) 5 (a .counts .lines)) 6 (a .arguments) ≡
     over (answerWords a) l
 unfolding over answerWords
-six l a h = sets-eq (a .number ∷ a .place ∷ a .counts .pieces ∷ a .counts .errors ∷ a .counts .places ∷ a .counts .lines ∷ []) l 0 h
+seven l a h = sets-eq (a .number ∷ a .place ∷ a .counts .pieces ∷ a .counts .errors ∷ a .counts .places ∷ a .counts .lines ∷ a .arguments ∷ []) l 0 h
 
 -- a list at exit, where the number is 0 and where it is not
 module _ (n : ℕ) (new old : List ℕ) where
@@ -44,6 +45,15 @@ module _ (n : ℕ) (new old : List ℕ) where
   pub at-refused : (n ≡ 0 → ⊥) → old ≡ atExit n new old
   unfolding atExit pick
   at-refused some = rw (ne-eqb n 0 some)
+
+-- how many arguments are said, where the number is 0 and where it is not
+said : (w : ℕ) {n : ℕ} → n ≡ 0 → w ≡ pick (eqb n 0) w 0
+unfolding pick
+said w {n} z = rw (eq-eqb n 0 z)
+
+unsaid : (w : ℕ) {n : ℕ} → (n ≡ 0 → ⊥) → 0 ≡ pick (eqb n 0) w 0
+unfolding pick
+unsaid w {n} some = rw (ne-eqb n 0 some)
 
 -- nothing over a list
 over-none : (old : List ℕ) → old ≡ over (pairs []) old
@@ -71,10 +81,10 @@ module _ (t : List ℕ) (f : Frame) (m : Mode) where
 
     -- and what is no source literal is filled with that
     pub filled-is : {ps′ es′ : List ℕ} {r : Found} → f .literal ≡ false → Fills t f m ps ps′ es es′ r →
-        Filled t f m ps ps′ es es′ (answered 0 0 (record { pieces = r .pieces; errors = r .errors; places = 0; lines = 0 }))
+        Filled t f m ps ps′ es es′ (answered 0 0 (record { pieces = r .pieces; errors = r .errors; places = 0; lines = 0 }) (r .arguments))
     unfolding countsOf
     filled-is e x =
-        record { answer = rw (x .pieces, x .errors, no-places t f m e, no-lines t f m e); pieces = x .wrote-pieces; errors = x .wrote-errors }
+        record { answer = rw (x .pieces, x .errors, x .arguments, no-places t f m e, no-lines t f m e); pieces = x .wrote-pieces; errors = x .wrote-errors }
 
   module _ (ps es ls ns : List ℕ) where
     -- lists of numbers with room for so many records
@@ -101,10 +111,10 @@ module _ (t : List ℕ) (f : Frame) (m : Mode) where
     -- THE LISTS AT EXIT
     module _ {n : ℕ} {c : Counts} {r : Rooms} (p : n ≡ roomFor c r) (e : c ≡ countsOf t f m) (q : r ≡ roomsIn ps es ls ns) where
       -- a list without room leaves them all
-      pub refused-by : (n ≡ 0 → ⊥) → ReadBy t f m ps ps es es ls ls ns ns (answered n 0 c)
+      pub refused-by : (n ≡ 0 → ⊥) → ReadBy t f m ps ps es es ls ls ns ns (answered n 0 c 0)
       refused-by some =
           record {
-            answer = rw (p, e, q);
+            answer = ap (answered n 0 c) (unsaid (wants (pieces t f m)) some) ∙ rw (p, e, q);
             lists =
                 record {
                   pieces = at-refused n (piecesIn t f m) ps some;
@@ -115,12 +125,12 @@ module _ (t : List ℕ) (f : Frame) (m : Mode) where
           }
 
       -- with room each is filled
-      pub done-by : {ps′ es′ ls′ ns′ : List ℕ} → n ≡ 0 → ps′ ≡ over (piecesIn t f m) ps → es′ ≡ over (errorsIn t f m) es →
+      pub done-by : {w : ℕ} {ps′ es′ ls′ ns′ : List ℕ} → w ≡ wants (pieces t f m) → n ≡ 0 → ps′ ≡ over (piecesIn t f m) ps → es′ ≡ over (errorsIn t f m) es →
           ls′ ≡ over (pairs (places t f m)) ls → ns′ ≡ over (pairs (lines t f m)) ns →
-          ReadBy t f m ps ps′ es es′ ls ls′ ns ns′ (answered n 0 c)
-      done-by z a b d g =
+          ReadBy t f m ps ps′ es es′ ls ls′ ns ns′ (answered n 0 c w)
+      done-by v z a b d g =
           record {
-            answer = rw (p, e, q);
+            answer = ap (answered n 0 c) (v ∙ said (wants (pieces t f m)) z) ∙ rw (p, e, q);
             lists =
                 record {
                   pieces = a ∙ at-done n (piecesIn t f m) ps z;
@@ -135,4 +145,4 @@ module _ (t : List ℕ) (f : Frame) (m : Mode) where
         ReadBy t f m ps ps′ es es′ ls ls ns ns a
     roomy-by {r = r} q x y =
         rw (y .answer)
-        (done-by (sym (roomy-zero x)) refl q refl (y .pieces) (y .errors) (rw (no-places t f m (x .literal)) (over-none ls)) (rw (no-lines t f m (x .literal)) (over-none ns)))
+        (done-by (sym (roomy-zero x)) refl q refl refl (y .pieces) (y .errors) (rw (no-places t f m (x .literal)) (over-none ls)) (rw (no-lines t f m (x .literal)) (over-none ns)))

@@ -7,7 +7,8 @@ use lib.ListN.{length}
 use Rattle.frame.specs.Bounds.{Small}
 use Rattle.frame.specs.declared.Frame.{Frame}
 use Rattle.frame.specs.declared.Mode.{Mode}
-use Rattle.reading.specs.Lists.{places, lines, countsOf}
+use Rattle.reading.specs.Lists.{pieces, places, lines, countsOf}
+use Rattle.reading.specs.Wants.{wants}
 use Rattle.reading.specs.Answers.{answered, answerOf, frameFor, modeFor}
 use Rattle.laws.specs.Deciding.{countedBy}
 use Rattle.reading.specs.Written.{over, pairs}
@@ -33,7 +34,7 @@ pub record Ample (t : List ℕ) (f : Frame) (ps es : List ℕ) : Type 0 where
 
 -- a text that is read without being counted first: done, and both lists filled
 pub record Filled (t : List ℕ) (f : Frame) (m : Mode) (ps ps′ es es′ : List ℕ) (a : Answer) : Type 0 where
-  pub answer : a ≡ answered 0 0 (countsOf t f m)
+  pub answer : a ≡ answered 0 0 (countsOf t f m) (wants (pieces t f m))
   pub pieces : ps′ ≡ over (piecesIn t f m) ps
   pub errors : es′ ≡ over (errorsIn t f m) es
 

@@ -20,9 +20,9 @@ ghost use Rattle.reading.specs.Written.{over};
 ghost use Rattle.words.specs.Calls.{Exported, Counted, requestOf, roomsIn, answerWords};
 ghost use Rattle.export.specs.Parts.{Roomy, Ample, Filled, ReadBy, Read};
 
-// The six numbers of an answer, over the first of a list.
+// The seven numbers of an answer, over the first of a list.
 fn put_answer(out: &mut [usize], answer: Answer)
-    requires { ⌜ 6 ≤ length (now out) ⌝ }
+    requires { ⌜ 7 ≤ length (now out) ⌝ }
     ensures { λ _. ⌜ now (out .exit) ≡ over (answerWords answer) (now (out .entry)) ⌝ }
 {
     let counts = answer.counts;
@@ -32,6 +32,7 @@ fn put_answer(out: &mut [usize], answer: Answer)
     out[3] = counts.errors;
     out[4] = counts.places;
     out[5] = counts.lines;
+    out[6] = answer.arguments;
 }
 
 // Whether both lists have room for whatever a text of so many bytes holds: a record a byte is enough. Only source literals need the other lists.
@@ -63,6 +64,7 @@ fn filled(text: &[u8], frame: Frame, mode: Mode, pieces: &mut [u32], errors: &mu
         number: 0,
         place: 0,
         counts,
+        arguments: got.arguments,
     }
 }
 
@@ -80,17 +82,25 @@ fn counted(
     requires { ⌜ Small (now text) frame × (rooms ≡ roomsIn (now pieces) (now errors) (now places) (now lines)) ⌝ }
     ensures { λ r. ⌜ ReadBy (now (text .entry)) frame mode (now (pieces .entry)) (now (pieces .exit)) (now (errors .entry)) (now (errors .exit)) (now (places .entry)) (now (places .exit)) (now (lines .entry)) (now (lines .exit)) r ⌝ }
 {
-    let counts = tally::tally(text, frame, mode);
+    let told = tally::tally(text, frame, mode);
+    let counts = told.counts;
     let number = room_for(counts, rooms);
     if number == 0 {
         fills::run::fill(text, frame, mode, pieces, errors);
         fill_places(text, frame, mode, places);
         fill_lines(text, frame, mode, lines);
+        return Answer {
+            number,
+            place: 0,
+            counts,
+            arguments: told.arguments,
+        };
     }
     Answer {
         number,
         place: 0,
         counts,
+        arguments: 0,
     }
 }
 
@@ -125,7 +135,7 @@ fn read(
     counted(text, frame, mode, rooms, pieces, errors, places, lines)
 }
 
-// Reads a text into four lists of numbers: 40 a piece, 16 an error record, 2 a span. The answer's six numbers go to a list of their own; without
+// Reads a text into four lists of numbers: 40 a piece, 16 an error record, 2 a span. The answer's seven numbers go to a list of their own; without
 // room for them the call is refused with 255. A refusal changes no list.
 #[no_mangle]
 pub extern "C" fn nitarehpu_read(
@@ -144,7 +154,7 @@ pub extern "C" fn nitarehpu_read(
 ) -> u8
     ensures { λ r. ⌜ Exported (now (text .entry)) (now (snippet .entry)) (requestOf mode style hashes given newline) (now (pieces .entry)) (now (pieces .exit)) (now (errors .entry)) (now (errors .exit)) (now (places .entry)) (now (places .exit)) (now (lines .entry)) (now (lines .exit)) (now (answer .entry)) (now (answer .exit)) r ⌝ }
 {
-    if answer.len() < 6 {
+    if answer.len() < 7 {
         return 255;
     }
     let request = request_of(mode, style, hashes, given, newline);
@@ -153,7 +163,7 @@ pub extern "C" fn nitarehpu_read(
     got.number
 }
 
-// How many records each list of a reading needs, with the same refusals 1 to 5 and 255.
+// How many records each list of a reading needs and how many arguments its pieces want, with the same refusals 1 to 5 and 255.
 #[no_mangle]
 pub extern "C" fn nitarehpu_count(
     text: &[u8],
@@ -167,7 +177,7 @@ pub extern "C" fn nitarehpu_count(
 ) -> u8
     ensures { λ r. ⌜ Counted (now (text .entry)) (now (snippet .entry)) (requestOf mode style hashes given newline) (now (answer .entry)) (now (answer .exit)) r ⌝ }
 {
-    if answer.len() < 6 {
+    if answer.len() < 7 {
         return 255;
     }
     let request = request_of(mode, style, hashes, given, newline);

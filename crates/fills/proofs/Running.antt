@@ -14,6 +14,8 @@ use Rattle.reading.specs.Lists.{gather, piecesOf, pieces, frontOnly, backOnly, 
 use Rattle.laws.specs.ListLaws.{gather-append, gather-more, parts-length, findings-more, findings-none, errors-found}
 use Rattle.reading.specs.Steps.{stepAt, onward, follow, stepsFrom, start, reading}
 use Rattle.laws.specs.StepLaws.{steps-none}
+use Rattle.laws.specs.StateLaws.{lastState, last-on, last-over, last-none, arguments-all}
+use Rattle.reading.specs.Wants.{wants}
 use Rattle.laws.specs.WalkLaws.{Kept, kept-start, kept-on, steps-some, steps-on, steps-over}
 use Rattle.reading.specs.declared.Piece.{Piece}
 use Rattle.reading.specs.declared.State.{State}
@@ -95,6 +97,7 @@ pub record Going (t : List ℕ) (f : Frame) (m : Mode) (k : ℕ) (ps₀ es₀ ps
   pub pieces : Laying ps₀ (pieces t f m) ps (r .pieces) (gather piecesOf (stepsFrom left t f m s))
   pub errors : Left t f (fresh k es₀) (found t f m) (notedBy r es) (findings (r .pieces) (stepsFrom left t f m s))
   pub kept : Kept left s
+  pub last : lastState left t f m s ≡ lastState (length t + 1) t f m start
 
 module _ (t : List ℕ) (f : Frame) (m : Mode) where
   module _ (k : ℕ) (ps₀ es₀ : List ℕ) (room : 40 * length (pieces t f m) ≤ length ps₀) where
@@ -110,6 +113,7 @@ module _ (t : List ℕ) (f : Frame) (m : Mode) where
               left-first t f {s = fresh k es₀} {all = found t f m}
               (record { back = omega arith; front = omega arith; count = omega arith });
           kept = kept-start t (small .text);
+          last = refl;
         }
 
     -- all is written
@@ -125,6 +129,9 @@ module _ (t : List ℕ) (f : Frame) (m : Mode) where
       going-none h =
           let e = steps-none t f m left s h in
           ran (rw e at (g .pieces)) (rw (e, findings-none (r .pieces)) at (g .errors))
+
+      pub wanted-none : left ≤ 0 → s .arguments ≡ wants (pieces t f m)
+      wanted-none h = ap (λ (s : State). s .arguments) (sym (last-none t f m s left h) ∙ g .last) ∙ arguments-all t f m
 
       -- there is room for the step where reading stands
       pub going-room : 0 < left → StepRoom (stepAt t f m s) r ps es
@@ -162,6 +169,7 @@ module _ (t : List ℕ) (f : Frame) (m : Mode) where
               pieces = pieces-on (d .stepped) more e;
               errors = errors-on (d .stepped) more e;
               kept = kept-on t f m s refl left h to (g .kept);
+              last = sym (last-on t f m s refl left h to) ∙ g .last;
             }
 
         -- it is over
@@ -170,6 +178,9 @@ module _ (t : List ℕ) (f : Frame) (m : Mode) where
         going-over n =
             let e = steps-over t f m s refl left h (d .over n) in
             ran (pieces-on (d .stepped) [] e) (rw findings-none at (errors-on (d .stepped) [] e))
+
+        pub wanted-over : o .more ≡ false → s .arguments ≡ wants (pieces t f m)
+        wanted-over n = ap (λ (s : State). s .arguments) (sym (last-over t f m s refl left (d .over n)) ∙ g .last) ∙ arguments-all t f m
 
 -- TWO RUNS
 no-faults : (xs : List Finding) → length xs ≡ 0 → xs ≡ []
@@ -206,14 +217,15 @@ module _ (t : List ℕ) (f : Frame) (m : Mode) {ps es ps₁ es₁ : List ℕ} {r
   first-list = ap (λ (o : Noted). o .list) (g .noted) ∙ first-counted .list ∙ laid-first es (inWords t f back)
 
   -- where none goes to the front that is all
-  pub filled-once : r .fronts ≡ 0 → Fills t f m ps ps₁ es es₁ (record { pieces = r .pieces; errors = r .fronts + r .high })
+  pub filled-once : {w : ℕ} → w ≡ wants (pieces t f m) → r .fronts ≡ 0 → Fills t f m ps ps₁ es es₁ (record { pieces = r .pieces; errors = r .fronts + r .high; arguments = w })
   unfolding reversed
-  filled-once z =
+  filled-once said z =
       let none : front ≡ [] = no-faults front (omega (arith, first-fronts)) in
       let all : errorsIn t f m ≡ inWords t f back = errors-words t f m ∙ rw none in
       record {
         pieces = g .pieces;
         errors = first-errors;
+        arguments = said;
         wrote-pieces = g .wrote;
         wrote-errors = first-list ∙ rw all;
       }
@@ -239,11 +251,12 @@ module _ (t : List ℕ) (f : Frame) (m : Mode) {ps es ps₁ es₁ : List ℕ} {r
           length-append (reversed front) back,
         )
 
-    pub filled-twice : Fills t f m ps ps₂ es es₂ (record { pieces = r .pieces; errors = r .fronts + r .high })
-    filled-twice =
+    pub filled-twice : {w : ℕ} → w ≡ wants (pieces t f m) → Fills t f m ps ps₂ es es₂ (record { pieces = r .pieces; errors = r .fronts + r .high; arguments = w })
+    filled-twice said =
         record {
           pieces = g .pieces;
           errors = first-errors;
+          arguments = said;
           wrote-pieces = d .wrote ∙ rw (g .wrote) (over-again ps (piecesIn t f m) (piecesIn t f m) (omega arith));
           wrote-errors = second-list ∙ rw first-list (over-again es (inWords t f back) (errorsIn t f m) fewer);
         }

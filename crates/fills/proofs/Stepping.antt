@@ -16,12 +16,12 @@ use Rattle.scan.specs.ScanLaws.{is-at-byte, is-at-end, consumed-is, consumed-so
 use Rattle.closing.specs.Wholes.{placeholderRead}
 use Rattle.reading.specs.Faults.{stepSlots}
 use Rattle.laws.specs.ListLaws.{gather-one}
-use Rattle.reading.specs.Steps.{afterOpen, stepAt, onward}
+use Rattle.reading.specs.Steps.{stateOf, afterOpen, stepAt, onward}
 use Rattle.reading.specs.declared.Onward.{Onward}
 use Rattle.reading.specs.declared.Piece.{Piece}
 use Rattle.reading.specs.declared.State.{State}
 use Rattle.reading.specs.declared.Step.{Step}
-use Rattle.quick.specs.Tellings.{argumentOf, toldRead, Tells}
+use Rattle.quick.specs.Tellings.{argumentOf, nextOf, toldRead, Tells}
 use Rattle.quick.specs.declared.PlaceholderTold.{PlaceholderTold}
 use Rattle.words.specs.Laid.{laid}
 use Rattle.words.specs.Layout.{argumentWords, pieceWords}
@@ -29,6 +29,7 @@ use Rattle.writing.specs.StepsWritten.{notedBy, notes, noticed, Room, Notes, on
 use Rattle.writing.specs.declared.Extent.{Extent}
 use Rattle.writing.proofs.Noting.{noticed-same}
 use Rattle.fills.specs.Lane.{Sound, toldState, toldSlots}
+use Rattle.fills.proofs.Telling.{told-wants}
 use Rattle.fills.proofs.Wrongs.{told-wrong}
 
 module _ (t : List ℕ) (f : Frame) where
@@ -57,7 +58,8 @@ module _ (t : List ℕ) (f : Frame) where
 pub told-on : (t : List ℕ) (f : Frame) (s : State) (x : PlaceholderTold) {a : State} → a ≡ toldState s x →
     onward s (Step.Placeholder (toldRead t f (s .at .0) (s .next) x)) ≡ Onward.To a
 unfolding toldRead toldState
-told-on t f s x e = ap Onward.To (sym e)
+told-on t f s x e =
+    ap Onward.To (ap (λ (w : ℕ). stateOf (place (x .on)) (nextOf (s .next) x) w) (told-wants t f (s .at .0) (s .next) (s .arguments) x) ∙ sym e)
 
 -- what is told, where it is
 pub told-sound : (t : List ℕ) (at : ℕ) (x : PlaceholderTold) → Tells t at x → x .ok ≡ true → Sound t x

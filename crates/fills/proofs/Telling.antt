@@ -1,5 +1,5 @@
 -- The numbers of what the quick lane tells, part by part: each part's four numbers are the layout's. Rests on Lane, quick's Tellings and words' Layout.
-use Prim.Native.Nat.{ℕ, _+_, _≤_}
+use Prim.Native.Nat.{ℕ, _+_, _≤_, _<_}
 use mathlib.Core.Path.{_≡_, refl, sym, ap, _∙_}
 use mathlib.Core.Bool.{Bool, true, false}
 use mathlib.Core.List.{List, _++_, append-assoc}
@@ -21,6 +21,8 @@ use Rattle.placeholder.specs.declared.Place.{Place}
 use Rattle.placeholder.specs.declared.Spec.{Spec}
 use Rattle.placeholder.specs.declared.position.Found.{Found}
 use Rattle.reading.specs.Steps.{stateOf}
+use Rattle.reading.specs.Wants.{larger, placeWants, countWants, argumentWants}
+use Rattle.laws.specs.WantLaws.{larger-left, larger-right, larger-least, larger-none, larger-assoc}
 use Rattle.reading.specs.declared.State.{State}
 use Rattle.quick.specs.Tellings.{foundOf, countOf, widthOf, countSpan, fillOf, typeSpan, afterStar, specOf, argumentOf, nextOf}
 use Rattle.quick.specs.declared.TypeTold.{TypeTold}
@@ -31,7 +33,7 @@ use Rattle.words.specs.Laid.{laid}
 use Rattle.words.specs.LaidLaws.{laid-on, fillWords-length, placeWords-length, countWords-length, specWords-length, zeros-length}
 use Rattle.words.specs.Layout.{lowOf, four, none, bitOf, alignOf, signOf, placeTag, placeWords, fillWords, spanWords, countData, nameSpanEnd, countWords, headWords, specWords, argumentWords, zeros}
 use Rattle.words.proofs.Laying.{laying-first, laying-on, laying-last}
-use Rattle.fills.specs.Lane.{placeOf, toldHead, nameWords, toldState}
+use Rattle.fills.specs.Lane.{placeOf, toldHead, nameWords, widthWants, withCounts, toldState}
 
 -- NUMBERS OF ARGUMENTS: a star takes one at most
 pub star-few : (n : ℕ) (p : PartTold) → afterStar n p ≤ n + 1
@@ -71,20 +73,24 @@ module _ (s : State) (x : PlaceholderTold) where
   abbrev starred : ℕ
   starred = afterStar (s .next) (x .spec .precision)
 
-  abbrev standing : Found → State
-  standing o = stateOf (place (x .on)) (resolved o starred .next)
+  abbrev figure : ℕ
+  figure = withCounts (s .next) (s .arguments) x
 
-  pub state-implied : x .place .tag ≡ 0 → stateOf (place (x .on)) (starred + 1) ≡ toldState s x
-  unfolding toldState nextOf
+  abbrev standing : Found → State
+  standing o = stateOf (place (x .on)) (resolved o starred .next) (larger figure (placeWants (resolved o starred .place)))
+
+  pub state-implied : x .place .tag ≡ 0 → stateOf (place (x .on)) (starred + 1) (larger figure (starred + 1)) ≡ toldState s x
+  unfolding toldState nextOf placeOf
   state-implied e = sym (ap standing (found-none 0 (x .place) e))
 
-  pub state-given : (x .place .tag ≡ 0 → ⊥) → stateOf (place (x .on)) starred ≡ toldState s x
-  unfolding toldState nextOf
-  state-given some = go (eqb (x .place .tag) 1) refl
-    where
-      go : (b : Bool) → eqb (x .place .tag) 1 ≡ b → stateOf (place (x .on)) starred ≡ standing (foundOf 0 (x .place))
-      go true e = sym (ap standing (found-number 0 (x .place) some (eqb-true _ _ e)))
-      go false e = sym (ap standing (found-word 0 (x .place) some (eqb-false _ _ e)))
+  module _ (some : x .place .tag ≡ 0 → ⊥) where
+    pub state-number : x .place .tag ≡ 1 → stateOf (place (x .on)) starred (larger figure (x .place .value + 1)) ≡ toldState s x
+    unfolding toldState nextOf placeOf
+    state-number e = sym (ap standing (found-number 0 (x .place) some e))
+
+    pub state-named : (x .place .tag ≡ 1 → ⊥) → stateOf (place (x .on)) starred figure ≡ toldState s x
+    unfolding toldState nextOf placeOf
+    state-named e = ap (λ (n : ℕ). stateOf (place (x .on)) starred n) (sym (larger-none figure)) ∙ sym (ap standing (found-word 0 (x .place) some e))
 
 -- TWO PARTS laid one after the other
 pub two-laid : (l : List ℕ) (k : ℕ) (a b : List ℕ) (j : ℕ) → j ≡ k + length a → k + length a + length b ≤ length l → {l₁ l₂ : List ℕ} →
@@ -179,6 +185,104 @@ module _ (t : List ℕ) (f : Frame) (from n : ℕ) (p : PartTold) where
       let d = count-data n p e h in
       rw (span-some e, ← d .0, ← d .1)
       (two-laid l k (four (p .tag) (pick (eqb (p .tag) 3) (lowOf n) (p .value)) 0 0) (four 0 1 (lowOf (s .start .0)) (lowOf (s .end .0))) (k + 4) (omega arith) (omega arith) w₁ w₂)
+
+-- WHAT IT WANTS: a count by its tag
+module _ (n : ℕ) (p : PartTold) where
+  pub count-fixed : p .tag ≤ 1 → 0 ≡ countWants (countOf n p)
+  count-fixed h = go (eqb (p .tag) 0) refl
+    where
+      go : (b : Bool) → eqb (p .tag) 0 ≡ b → 0 ≡ countWants (countOf n p)
+      go true e = sym (ap countWants (count-implied n p (eqb-true (p .tag) 0 e)))
+      go false e =
+          let some = eqb-false (p .tag) 0 e in
+          let one : p .tag ≡ 1 = omega (arith, h, some) in
+          sym (ap countWants (count-one n p some one))
+
+  pub count-given : p .tag ≡ 2 → p .value + 1 ≡ countWants (countOf n p)
+  count-given e = sym (ap countWants (count-two n p (λ z. omega (arith, e, z)) e))
+
+  pub count-starred : 1 < p .tag → (p .tag ≡ 2 → ⊥) → n + 1 ≡ countWants (countOf n p)
+  unfolding countOf pick
+  count-starred h two = rw (ne-eqb (p .tag) 0 (λ z. omega (arith, h, z)), ne-eqb (p .tag) 1 (λ z. omega (arith, h, z)), ne-eqb (p .tag) 2 two)
+
+-- a place wherever it stands
+same-place : (a b k : ℕ) (p : PartTold) → placeWants (placeOf a p k) ≡ placeWants (placeOf b p k)
+unfolding placeOf foundOf pick
+same-place a b k p = go (eqb (p .tag) 0) (eqb (p .tag) 1)
+  where
+    go : (x y : Bool) →
+        placeWants (resolved (pick x Found.Nothing (pick y (Found.Number (Numeral.Within (p .value))) (Found.Word (rangeOf (place a) (place (p .end)))))) k .place) ≡
+        placeWants (resolved (pick x Found.Nothing (pick y (Found.Number (Numeral.Within (p .value))) (Found.Word (rangeOf (place b) (place (p .end)))))) k .place)
+    go true y = refl
+    go false true = refl
+    go false false = refl
+
+-- a width by its tag
+module _ (n : ℕ) (p : PartTold) where
+  pub width-named : p .tag ≡ 4 → 0 ≡ widthWants n p
+  unfolding widthWants pick
+  width-named e = rw (eq-eqb (p .tag) 4 e)
+
+  pub width-other : (p .tag ≡ 4 → ⊥) → countWants (countOf n p) ≡ widthWants n p
+  unfolding widthWants pick
+  width-other e = rw (ne-eqb (p .tag) 4 e)
+
+  pub width-fixed : p .tag ≤ 1 → 0 ≡ widthWants n p
+  width-fixed h = count-fixed n p h ∙ width-other (λ e. omega (arith, h, e))
+
+width-wants : (t : List ℕ) (f : Frame) (n from word : ℕ) (p : PartTold) → countWants (widthOf t f n from word p) ≡ widthWants n p
+unfolding widthOf widthWants pick
+width-wants t f n from word p = go (eqb (p .tag) 4)
+  where
+    go : (b : Bool) →
+        countWants (pick b (Count.ByName (rangeOf (place from) (place word)) (spanBetween t f (place from) (place word))) (countOf n p)) ≡ pick b 0 (countWants (countOf n p))
+    go true = refl
+    go false = refl
+
+-- the larger of three in another order
+turned : (a p s : ℕ) → larger a (larger p s) ≡ larger (larger a s) p
+turned a p s =
+    let inner = larger-left a s in
+    let second = larger-right a s in
+    let outer = larger-left (larger a s) p in
+    let one : larger a (larger p s) ≤ larger (larger a s) p =
+    larger-least (omega (arith, inner, outer)) (larger-least (larger-right (larger a s) p) (omega (arith, second, outer))) in
+    let whole = larger-right a (larger p s) in
+    let other : larger (larger a s) p ≤ larger a (larger p s) =
+    larger-least (larger-least (larger-left a (larger p s)) (omega (arith, larger-right p s, whole))) (omega (arith, larger-left p s, whole)) in
+    omega (arith, one, other)
+
+-- WHAT IS TOLD WANTS WHAT ITS ARGUMENT WANTS, beside any figure
+pub told-wants : (t : List ℕ) (f : Frame) (brace n a : ℕ) (x : PlaceholderTold) →
+    larger a (argumentWants (argumentOf t f brace n x)) ≡ larger (withCounts n a x) (placeWants (placeOf 0 (x .place) (afterStar n (x .spec .precision))))
+unfolding argumentWants argumentOf specOf withCounts placeOf pick
+told-wants t f brace n a x = go (x .colon)
+  where
+    k : ℕ
+    k = afterStar n (x .spec .precision)
+
+    own : ℕ → ℕ
+    own at = placeWants (placeOf at (x .place) k)
+
+    wide : ℕ
+    wide = widthWants n (x .spec .width)
+
+    precise : ℕ
+    precise = countWants (countOf n (x .spec .precision))
+
+    go : (b : Bool) →
+        let s : Spec = pick b (specOf t f (x .to + 1) n (x .spec)) (noSpec (place (x .to)) n .spec) in
+        larger a (larger (own (brace + 1)) (larger (countWants (s .width)) (countWants (s .precision)))) ≡
+        larger (pick b (larger (larger a wide) precise) a) (own 0)
+    go true =
+        ap (λ (p : ℕ). larger a (larger p (larger (countWants (widthOf t f n (x .spec .from) (x .spec .word) (x .spec .width))) precise))) (same-place (brace + 1) 0 k (x .place))
+        ∙ ap (λ (w : ℕ). larger a (larger (own 0) (larger w precise))) (width-wants t f n (x .spec .from) (x .spec .word) (x .spec .width))
+        ∙ turned a (own 0) (larger wide precise)
+        ∙ ap (λ (c : ℕ). larger c (own 0)) (sym (larger-assoc a wide precise))
+    go false =
+        ap (λ (p : ℕ). larger a (larger p (larger 0 0))) (same-place (brace + 1) 0 k (x .place))
+        ∙ ap (λ (c : ℕ). larger a (larger (own 0) c)) (larger-none 0)
+        ∙ ap (larger a) (larger-none (own 0))
 
 -- A WIDTH: a name, or any other count
 module _ (t : List ℕ) (f : Frame) (from word n : ℕ) (p : PartTold) where

@@ -6,12 +6,14 @@ use lib.ListN.{length}
 use Rattle.frame.specs.declared.Frame.{Frame}
 use Rattle.frame.specs.declared.Mode.{Mode}
 use Rattle.reading.specs.Lists.{pieces, errors}
+use Rattle.reading.specs.Wants.{wants}
 use Rattle.reading.specs.Written.{over}
 use Rattle.words.specs.Calls.{piecesIn, errorsIn}
 use Rattle.fills.specs.declared.run.Filled.{Filled}
 
--- both lists are filled, and r says how many records they have
+-- both lists are filled, and r says how many records they have and how many arguments the pieces want
 pub record Fills (t : List ℕ) (f : Frame) (m : Mode) (ps ps′ es es′ : List ℕ) (r : Filled) : Type 0 where
+  pub arguments : r .arguments ≡ wants (pieces t f m)
   pub pieces : r .pieces ≡ length (pieces t f m)
   pub errors : r .errors ≡ length (errors t f m)
   pub wrote-pieces : ps′ ≡ over (piecesIn t f m) ps

@@ -20,10 +20,11 @@ use Rattle.closing.specs.Recovery.{gapAt}
 use Rattle.reading.specs.Faults.{gapFault, hintFault, argumentSlots}
 use Rattle.reading.specs.Lists.{pieces, found}
 use Rattle.reading.specs.Steps.{stateOf}
+use Rattle.reading.specs.Wants.{larger, placeWants, countWants}
 use Rattle.reading.specs.Written.{over}
 use Rattle.reading.specs.declared.Fault.{Fault}
 use Rattle.reading.specs.declared.State.{State}
-use Rattle.quick.specs.Tellings.{codeSeen, foundOf, nextOf, blanksOf, placedHint}
+use Rattle.quick.specs.Tellings.{codeSeen, foundOf, countOf, afterStar, nextOf, blanksOf, placedHint}
 use Rattle.quick.specs.declared.PartTold.{PartTold}
 use Rattle.quick.specs.declared.PlaceholderTold.{PlaceholderTold}
 use Rattle.words.specs.Layout.{headWords, placeTag, placeWords, countWords}
@@ -55,9 +56,19 @@ nameWords t f from word end =
     (Count.ByName (rangeOf (place from) (place word)) (spanBetween t f (place from) (place word)))
     (MaybeSpan.Present (spanBetween t f (place from) (place end)))
 
+-- how many arguments a width wants, by its tag: one that is a name wants none
+unfoldable pub widthWants : ℕ → PartTold → ℕ
+widthWants n p = pick (eqb (p .tag) 4) 0 (countWants (countOf n p))
+
+-- the larger of a figure and what its counts want
+unfoldable pub withCounts : ℕ → ℕ → PlaceholderTold → ℕ
+withCounts n figure x = pick (x .colon) (larger (larger figure (widthWants n (x .spec .width))) (countWants (countOf n (x .spec .precision)))) figure
+
 -- where reading stands after it
 unfoldable pub toldState : State → PlaceholderTold → State
-toldState s x = stateOf (place (x .on)) (nextOf (s .next) x)
+toldState s x =
+    stateOf (place (x .on)) (nextOf (s .next) x)
+    (larger (withCounts (s .next) (s .arguments) x) (placeWants (placeOf 0 (x .place) (afterStar (s .next) (x .spec .precision)))))
 
 -- what says why a closing brace was expected: the fill, which stands after the colon, if it is `}`, else the opening brace
 unfoldable pub whyTold : List ℕ → TextPlace → PlaceholderTold → TextPlace

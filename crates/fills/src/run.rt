@@ -5,17 +5,26 @@ use frame::Mode;
 use frame::TextPlace;
 use reading::State;
 use writing::Extent;
+ghost use mathlib.Core.Path.{_≡_};
 ghost use Prim.Native.Nat.{_*_, _≤_};
 ghost use lib.ListN.{length};
 ghost use Rattle.frame.specs.Bounds.{Small};
 ghost use Rattle.reading.specs.Lists.{pieces as piecesOf, errors as errorsOf, found, frontOnly};
+ghost use Rattle.reading.specs.Wants.{wants};
 ghost use Rattle.fills.specs.Filling.{Fills};
 ghost use Rattle.fills.specs.Lane.{Ran};
 
-// How many pieces and error records a text has.
+// How many pieces and error records a text has, and how many arguments the pieces want.
 pub struct Filled {
     pub pieces: usize,
     pub errors: usize,
+    pub arguments: usize,
+}
+
+// What a run wrote, and how many arguments its pieces want.
+pub struct Written {
+    pub extent: Extent,
+    pub arguments: usize,
 }
 
 // Writes both lists. Where `fronts` is how many records go to the front, each record goes to its own place at once; where it is 0, those of the
@@ -27,13 +36,14 @@ fn run(
     fronts: usize,
     pieces: &mut [u32],
     errors: &mut [u32],
-) -> Extent
+) -> Written
     requires { ⌜ Small (now text) frame × (40 * length (piecesOf (now text) frame mode) ≤ length (now pieces)) × (16 * length (errorsOf (now text) frame mode) ≤ length (now errors)) × (fronts ≤ length (frontOnly (found (now text) frame mode))) ⌝ }
-    ensures { λ r. ⌜ Ran (now (text .entry)) frame mode fronts (now (pieces .entry)) (now (errors .entry)) r (now (pieces .exit)) (now (errors .exit)) ⌝ }
+    ensures { λ r. ⌜ Ran (now (text .entry)) frame mode fronts (now (pieces .entry)) (now (errors .entry)) (r .extent) (now (pieces .exit)) (now (errors .exit)) × (r .arguments ≡ wants (piecesOf (now (text .entry)) frame mode)) ⌝ }
 {
     let mut state = State {
         at: TextPlace(0),
         next: 0,
+        arguments: 0,
     };
     let mut extent = Extent {
         pieces: 0,
@@ -46,25 +56,32 @@ fn run(
         let step = write_next(text, frame, mode, state, &mut *pieces, &mut *errors, extent);
         extent = step.extent;
         if !step.more {
-            return extent;
+            return Written {
+                extent,
+                arguments: state.arguments,
+            };
         }
         state = step.state;
         left -= 1;
     }
-    extent
+    Written {
+        extent,
+        arguments: state.arguments,
+    }
 }
 
-// The pieces and the error records of a text, and how many there are. A text without records of the front is read once.
+// The pieces and the error records of a text, how many there are, and how many arguments the pieces want. A text without records of the front is read once.
 pub fn fill(text: &[u8], frame: Frame, mode: Mode, pieces: &mut [u32], errors: &mut [u32]) -> Filled
     requires { ⌜ Small (now text) frame × (40 * length (piecesOf (now text) frame mode) ≤ length (now pieces)) × (16 * length (errorsOf (now text) frame mode) ≤ length (now errors)) ⌝ }
     ensures { λ r. ⌜ Fills (now (text .entry)) frame mode (now (pieces .entry)) (now (pieces .exit)) (now (errors .entry)) (now (errors .exit)) r ⌝ }
 {
     let first = run(text, frame, mode, 0, &mut *pieces, &mut *errors);
-    if 0 < first.fronts {
-        run(text, frame, mode, first.fronts, pieces, errors);
+    if 0 < first.extent.fronts {
+        run(text, frame, mode, first.extent.fronts, pieces, errors);
     }
     Filled {
-        pieces: first.pieces,
-        errors: first.fronts + first.high,
+        pieces: first.extent.pieces,
+        errors: first.extent.fronts + first.extent.high,
+        arguments: first.arguments,
     }
 }

@@ -10,6 +10,7 @@ use quick::SignHint;
 use quick::SpecTold;
 use quick::TypeTold;
 use reading::State;
+use steps::wants::larger_of;
 use words::align_word;
 use words::bit;
 use words::low;
@@ -36,11 +37,12 @@ ghost use Rattle.frame.specs.Bounds.{Small};
 ghost use Rattle.placeholder.specs.Specs.{noSpec};
 ghost use Rattle.reading.specs.Faults.{flawFault, argumentSlots};
 ghost use Rattle.reading.specs.Steps.{stepAt};
+ghost use Rattle.reading.specs.Wants.{larger, countWants};
 ghost use Rattle.quick.specs.Tellings.{codeSeen, fillOf, countOf, widthOf, countSpan, typeSpan, afterStar, specOf, argumentOf, blankFlaw, blanksOf, placedHint};
 ghost use Rattle.words.specs.Laid.{laid};
 ghost use Rattle.words.specs.Layout.{lowOf, four, placeWords, fillWords, spanWords, countWords, specWords, argumentWords};
 ghost use Rattle.writing.specs.StepsWritten.{notedBy, noticed, Room, Notes, BackRoom, BackNotes, StepRoom, SteppedOn};
-ghost use Rattle.fills.specs.Lane.{Sound, placeOf, toldHead, nameWords, toldState, Flawless, whyTold, missingTold, toldSlots};
+ghost use Rattle.fills.specs.Lane.{Sound, placeOf, toldHead, nameWords, widthWants, withCounts, toldState, Flawless, whyTold, missingTold, toldSlots};
 
 // The place of what is told, which starts at `at`.
 fn put_told_place(out: &mut [u32], k: usize, place: PartTold, at: usize, next: usize, span: Span)
@@ -280,6 +282,55 @@ fn after_star(part: PartTold, next: usize) -> usize
     if part.tag == 3 { next + 1 } else { next }
 }
 
+// How many arguments a count wants that is neither absent nor fixed.
+fn count_wants(part: PartTold, next: usize) -> usize
+    requires { ⌜ (next < 0xFFFFF) × (1 < part .tag) ⌝ }
+    ensures { λ r. ⌜ r ≡ countWants (countOf next part) ⌝ }
+{
+    if part.tag == 2 {
+        return part.value as usize + 1;
+    }
+    next + 1
+}
+
+// The larger of a figure and what a count wants: most want none.
+fn with_count(part: PartTold, next: usize, figure: usize) -> usize
+    requires { ⌜ next < 0xFFFFF ⌝ }
+    ensures { λ r. ⌜ r ≡ larger figure (countWants (countOf next part)) ⌝ }
+{
+    if part.tag <= 1 {
+        return figure;
+    }
+    larger_of(figure, count_wants(part, next))
+}
+
+// The same of a width: one that is a name wants none.
+fn with_width(part: PartTold, next: usize, figure: usize) -> usize
+    requires { ⌜ next < 0xFFFFF ⌝ }
+    ensures { λ r. ⌜ r ≡ larger figure (widthWants next part) ⌝ }
+{
+    if part.tag <= 1 {
+        return figure;
+    }
+    if part.tag == 4 {
+        return figure;
+    }
+    larger_of(figure, count_wants(part, next))
+}
+
+// The same of what is told behind a colon.
+fn with_counts(told: PlaceholderTold, next: usize, figure: usize) -> usize
+    requires { ⌜ next < 0xFFFFF ⌝ }
+    ensures { λ r. ⌜ r ≡ withCounts next figure told ⌝ }
+{
+    if !told.colon {
+        return figure;
+    }
+    let spec = told.spec;
+    let wide = with_width(spec.width, next, figure);
+    with_count(spec.precision, next, wide)
+}
+
 // Where reading stands after what is told: a star takes an argument's number, and then a place that is not written.
 fn after_told(state: State, told: PlaceholderTold) -> State
     requires { ⌜ state .next < 0xFFFFE ⌝ }
@@ -289,13 +340,29 @@ fn after_told(state: State, told: PlaceholderTold) -> State
     let place = told.place;
     let at = TextPlace(told.on);
     let after = after_star(spec.precision, state.next);
+    let figure = with_counts(told, state.next, state.arguments);
     if place.tag == 0 {
+        let next = after + 1;
+        let arguments = larger_of(figure, next);
         return State {
             at,
-            next: after + 1,
+            next,
+            arguments,
         };
     }
-    State { at, next: after }
+    if place.tag == 1 {
+        let arguments = larger_of(figure, place.value as usize + 1);
+        return State {
+            at,
+            next: after,
+            arguments,
+        };
+    }
+    State {
+        at,
+        next: after,
+        arguments: figure,
+    }
 }
 
 // What is told, as the n-th piece.
@@ -543,6 +610,7 @@ pub fn write_next(
         state: State {
             at: end,
             next: state.next,
+            arguments: state.arguments,
         },
         extent: one_more(extent),
     }

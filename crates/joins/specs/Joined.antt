@@ -18,6 +18,7 @@ use Rattle.reading.specs.declared.Piece.{Piece}
 use Rattle.reading.specs.declared.ErrorRecord.{ErrorRecord}
 use Rattle.reading.specs.declared.Answer.{Answer}
 use Rattle.reading.specs.declared.Request.{Request}
+use Rattle.reading.specs.Wants.{wants}
 use Rattle.reading.specs.Answers.{answered, frameFor, modeOf, modeFor}
 use Rattle.reading.specs.Calls.{roomsOf, Read}
 use Rattle.laws.specs.BrokenLaws.{well-whole}
@@ -90,8 +91,12 @@ pub record Clean (t : List ℕ) (q : Request) (xs : List Piece) : Type 0 where
 
 -- What holds of the joined text's call: its answer r, and its list of pieces before (rs) and after (rs′). (R12.7)
 pub record JoinedCall (t u : List ℕ) (ps qs rs rs′ : List Piece) (r : Answer) : Type 0 where
-  -- no error is counted, nor an argument place or a line; 6 is answered where the list has no room for the pieces, else 0
-  pub answer : let n = length (join t u ps qs) in r ≡ answered (pick (ltb (length rs) n) 6 0) 0 (piecesOnly n)
+  -- no error is counted, nor an argument place or a line; 6 is answered where the list has no room for the pieces, else 0, with how many arguments
+  -- they want (`join-wants` of Wanting: the larger of what both want, the second's raised)
+  pub answer :
+      let all = join t u ps qs in
+      let short = ltb (length rs) (length all) in
+      r ≡ answered (pick short 6 0) 0 (piecesOnly (length all)) (pick short 0 (wants all))
   -- done, the list holds the pieces
   pub the-pieces : r .number ≡ 0 → take (length (join t u ps qs)) rs′ ≡ join t u ps qs
 

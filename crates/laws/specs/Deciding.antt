@@ -5,12 +5,13 @@ use mathlib.Core.Path.{_≡_, refl, sym, ap, _∙_}
 use mathlib.Core.Bool.{Bool, true, false, not}
 use mathlib.Core.List.{List, [], _∷_}
 use native.Mathlib.Omega.{arith}
-use lib.Dec.{ltb}
+use lib.Dec.{eqb, ltb}
 use Rattle.utf8.specs.Choice.{pick}
 use Rattle.utf8.specs.Utf8.{validPrefix}
 use Rattle.frame.specs.declared.Frame.{Frame}
 use Rattle.frame.specs.declared.Mode.{Mode}
-use Rattle.reading.specs.Lists.{countsOf}
+use Rattle.reading.specs.Lists.{pieces, countsOf}
+use Rattle.reading.specs.Wants.{wants}
 use Rattle.reading.specs.Answers.{noCounts, answered, isStyled, isLong, isBroken, lacksNewline, frameFor, modeFor, refusal, firstOf, answerBy, answerOf}
 use Rattle.reading.specs.declared.Counts.{Counts}
 use Rattle.reading.specs.declared.Request.{Request}
@@ -19,7 +20,7 @@ use Rattle.reading.specs.declared.Answer.{Answer}
 
 -- a refusal before anything is read
 abbrev pub refusedAs : ℕ → ℕ → Answer
-refusedAs number at = answered number at noCounts
+refusedAs number at = answered number at noCounts 0
 
 -- 6 to 9, or 0
 unfoldable pub roomFor : Counts → Rooms → ℕ
@@ -30,9 +31,13 @@ roomFor c r =
     (pick (ltb (r .lines) (c .lines)) 9
     0)))
 
+-- records that are counted, and arguments that are said where all have room
+abbrev pub countedAs : Counts → ℕ → ℕ → Answer
+countedAs c w number = answered number 0 c (pick (eqb number 0) w 0)
+
 -- a text that is read: done, or a list without room
 abbrev pub countedBy : List ℕ → Frame → Mode → Rooms → Answer
-countedBy t f m r = let c = countsOf t f m in answered (roomFor c r) 0 c
+countedBy t f m r = let c = countsOf t f m in countedAs c (wants (pieces t f m)) (roomFor c r)
 
 unfoldable pub countedAnswer : List ℕ → List ℕ → Request → Rooms → Answer
 countedAnswer t s q r = countedBy t (frameFor t s q) (modeFor q) r
@@ -50,10 +55,10 @@ unlessRefused t s q a =
 
 -- the answer before the text is read: such a refusal, or 0
 unfoldable pub openAnswer : List ℕ → List ℕ → Request → Answer
-openAnswer t s q = unlessRefused t s q (answered 0 0 noCounts)
+openAnswer t s q = unlessRefused t s q (answered 0 0 noCounts 0)
 
 -- the order of the tests, whatever they say
-in-order : (mode styled long broken lacks p e a l : Bool) (prefix : ℕ) (c : Counts) →
+in-order : (mode styled long broken lacks p e a l : Bool) (prefix : ℕ) (c : Counts) (w : ℕ) →
     answerBy
     (firstOf
     (refusal 1 mode ∷
@@ -65,37 +70,38 @@ in-order : (mode styled long broken lacks p e a l : Bool) (prefix : ℕ) (c : Co
     refusal 7 e ∷
     refusal 8 a ∷
     refusal 9 l ∷
-    [])) prefix c ≡
+    [])) prefix c w ≡
     pick mode (refusedAs 1 0)
     (pick styled
     (pick long (refusedAs 3 0)
     (pick broken (refusedAs 4 prefix)
     (pick lacks (refusedAs 5 0)
-    (answered (pick p 6 (pick e 7 (pick a 8 (pick l 9 0)))) 0 c))))
+    (countedAs c w (pick p 6 (pick e 7 (pick a 8 (pick l 9 0))))))))
     (refusedAs 2 0))
 unfolding pick firstOf answerBy
-in-order true styled long broken lacks p e a l prefix c = refl
-in-order false false long broken lacks p e a l prefix c = refl
-in-order false true true broken lacks p e a l prefix c = refl
-in-order false true false true lacks p e a l prefix c = refl
-in-order false true false false true p e a l prefix c = refl
-in-order false true false false false true e a l prefix c = refl
-in-order false true false false false false true a l prefix c = refl
-in-order false true false false false false false true l prefix c = refl
-in-order false true false false false false false false true prefix c = refl
-in-order false true false false false false false false false prefix c = refl
+in-order true styled long broken lacks p e a l prefix c w = refl
+in-order false false long broken lacks p e a l prefix c w = refl
+in-order false true true broken lacks p e a l prefix c w = refl
+in-order false true false true lacks p e a l prefix c w = refl
+in-order false true false false true p e a l prefix c w = refl
+in-order false true false false false true e a l prefix c w = refl
+in-order false true false false false false true a l prefix c w = refl
+in-order false true false false false false false true l prefix c w = refl
+in-order false true false false false false false false true prefix c w = refl
+in-order false true false false false false false false false prefix c w = refl
 
 -- THE ANSWER AS IT IS DECIDED
 pub answer-decided : (t s : List ℕ) (q : Request) (r : Rooms) → answerOf t s q r ≡ unlessRefused t s q (countedAnswer t s q r)
 unfolding answerOf countedAnswer roomFor
-answer-decided t s q r = in-order _ _ _ _ _ _ _ _ _ _ _
+answer-decided t s q r = in-order _ _ _ _ _ _ _ _ _ _ _ _
 
--- WHAT AN ANSWER OF 0 SAYS: the text is within the limit and UTF-8, no list is too short, and the counts are the reading's
+-- WHAT AN ANSWER OF 0 SAYS: the text is within the limit and UTF-8, no list is too short, and the counts and the arguments are the reading's
 pub record Passed (t s : List ℕ) (q : Request) (r : Rooms) : Type 0 where
   pub short : isLong t (q .given) s ≡ false
   pub whole : isBroken t ≡ false
   pub room : roomFor (countsOf t (frameFor t s q) (modeFor q)) r ≡ 0
   pub counts : answerOf t s q r .counts ≡ countsOf t (frameFor t s q) (modeFor q)
+  pub arguments : answerOf t s q r .arguments ≡ wants (pieces t (frameFor t s q) (modeFor q))
 
 -- where no test holds it is what is answered then
 none-held : (mode styled long broken lacks : Bool) (prefix : ℕ) (a : Answer) →
@@ -114,14 +120,21 @@ none-held false true false true lacks prefix a e = absurd (omega arith)
 none-held false true false false true prefix a e = absurd (omega arith)
 none-held false true false false false prefix a e = (refl, (refl, refl))
 
+-- of 0 the arguments are said
+said-done : (w : ℕ) {n : ℕ} → n ≡ 0 → pick (eqb n 0) w 0 ≡ w
+unfolding pick
+said-done w e = rw e
+
 pub answer-passed : (t s : List ℕ) (q : Request) (r : Rooms) → answerOf t s q r .number ≡ 0 → Passed t s q r
 unfolding countedAnswer
 answer-passed t s q r e =
     let d = answer-decided t s q r in
     let k = none-held _ _ _ _ _ _ _ (ap (λ (a : Answer). a .number) (sym d) ∙ e) in
+    let room : roomFor (countsOf t (frameFor t s q) (modeFor q)) r ≡ 0 = ap (λ (a : Answer). a .number) (sym (d ∙ k .1 .1)) ∙ e in
     record {
       short = k .0;
       whole = k .1 .0;
-      room = ap (λ (a : Answer). a .number) (sym (d ∙ k .1 .1)) ∙ e;
+      room = room;
       counts = ap (λ (a : Answer). a .counts) (d ∙ k .1 .1);
+      arguments = ap (λ (a : Answer). a .arguments) (d ∙ k .1 .1) ∙ said-done _ room;
     }

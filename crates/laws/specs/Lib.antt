@@ -1,6 +1,9 @@
 -- What holds of every reading.
 pub mod StepLaws
 pub mod WalkLaws
+pub mod Numbered
+pub mod WantLaws
+pub mod StateLaws
 pub mod FaultLaws
 pub mod RecordLaws
 pub mod LineLaws

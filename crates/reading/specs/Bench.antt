@@ -1,5 +1,7 @@
 -- The template bench of document 01, B1 to B15, further cases, numbers that are too large, notices and refusals: tables with every field of every record, one statement
 -- that the checker computes. Format, no style, no snippet, where nothing else is said.
+use Prim.Native.Nat.{ℕ}
+use Prim.Native.String.{String}
 use mathlib.Core.Path.{_≡_, refl}
 use mathlib.Core.Bool.{true, false}
 use mathlib.Core.List.{List, [], _∷_}
@@ -31,6 +33,7 @@ use Rattle.placeholder.specs.declared.Place.{Place}
 use Rattle.closing.specs.Defaults.{noMarks, noCounts, isDefault, isIdentifier}
 use Rattle.closing.specs.Recovery.{gapAt, fieldRead, recoverRead}
 use Rattle.closing.specs.Wholes.{missingRead, placeholderRead}
+use Rattle.reading.specs.Wants.{larger, argumentWants, wants}
 use Rattle.reading.specs.Steps.{afterOpen, afterClose, stepAt, stepsFrom, reading}
 use Rattle.reading.specs.Faults.{argumentSlots, missingSlots, closingSlots, stepSlots, wrong, faultsOf, marked}
 use Rattle.reading.specs.Records.{errorOf, bareError, recordOf}
@@ -268,19 +271,64 @@ expectations (x ∷ xs) = x .expected ∷ expectations xs
 -- each refusal, and the order of those that a call can meet together; 3 takes a text longer than a case
 abbrev pub refused : List Asked
 refused =
-    asked (answerOf [] [] (ask 3 Hashes.Plain true false) rooms256) (answered 1 0 none-counted) ∷
-    asked (answerOf (0xFF ∷ []) [] (ask 0 Hashes.Plain true false) rooms256) (answered 2 0 none-counted) ∷
-    asked (answerOf [] [] (ask 0 (Hashes.Raw 256) false false) rooms256) (answered 2 0 none-counted) ∷
-    asked (answerOf (0x61 ∷ 0xFF ∷ []) [] (ask 0 Hashes.Plain false true) rooms256) (answered 4 1 none-counted) ∷
-    asked (answerOf (bytesOf "a") [] (ask 0 Hashes.Plain false true) (rooms 0 0 0 0)) (answered 5 0 none-counted) ∷
-    asked (answerOf (bytesOf "{a.b}") [] (ask 0 Hashes.Plain false false) (rooms 0 1 0 0)) (answered 6 0 (counts 1 2 0 0)) ∷
-    asked (answerOf (bytesOf "{a.b}") [] (ask 0 Hashes.Plain false false) (rooms 1 1 0 0)) (answered 7 0 (counts 1 2 0 0)) ∷
-    asked (answerOf (bytesOf "{}}") (bytesOf "r\"{}}\"") (ask 0 (Hashes.Raw 0) true false) (rooms 1 0 0 0)) (answered 7 0 (counts 1 1 1 0)) ∷
-    asked (answerOf (bytesOf "{}") (bytesOf "r\"{}\"") (ask 0 (Hashes.Raw 0) true false) (rooms 1 0 0 0)) (answered 8 0 (counts 1 0 1 1)) ∷
-    asked (answerOf (bytesOf "{}") (bytesOf "r\"{}\"") (ask 0 (Hashes.Raw 0) true false) (rooms 1 0 1 0)) (answered 9 0 (counts 1 0 1 1)) ∷
+    asked (answerOf [] [] (ask 3 Hashes.Plain true false) rooms256) (answered 1 0 none-counted 0) ∷
+    asked (answerOf (0xFF ∷ []) [] (ask 0 Hashes.Plain true false) rooms256) (answered 2 0 none-counted 0) ∷
+    asked (answerOf [] [] (ask 0 (Hashes.Raw 256) false false) rooms256) (answered 2 0 none-counted 0) ∷
+    asked (answerOf (0x61 ∷ 0xFF ∷ []) [] (ask 0 Hashes.Plain false true) rooms256) (answered 4 1 none-counted 0) ∷
+    asked (answerOf (bytesOf "a") [] (ask 0 Hashes.Plain false true) (rooms 0 0 0 0)) (answered 5 0 none-counted 0) ∷
+    asked (answerOf (bytesOf "{a.b}") [] (ask 0 Hashes.Plain false false) (rooms 0 1 0 0)) (answered 6 0 (counts 1 2 0 0) 0) ∷
+    asked (answerOf (bytesOf "{a.b}") [] (ask 0 Hashes.Plain false false) (rooms 1 1 0 0)) (answered 7 0 (counts 1 2 0 0) 0) ∷
+    asked (answerOf (bytesOf "{}}") (bytesOf "r\"{}}\"") (ask 0 (Hashes.Raw 0) true false) (rooms 1 0 0 0)) (answered 7 0 (counts 1 1 1 0) 0) ∷
+    asked (answerOf (bytesOf "{}") (bytesOf "r\"{}\"") (ask 0 (Hashes.Raw 0) true false) (rooms 1 0 0 0)) (answered 8 0 (counts 1 0 1 1) 0) ∷
+    asked (answerOf (bytesOf "{}") (bytesOf "r\"{}\"") (ask 0 (Hashes.Raw 0) true false) (rooms 1 0 1 0)) (answered 9 0 (counts 1 0 1 1) 0) ∷
     -- the first notice with room for one line: by the same count
-    asked (answerOf (bytesOf "{:\n x}") (bytesOf "r\"{:\n x}\"") (ask 2 (Hashes.Raw 0) true false) (rooms 1 0 1 1)) (answered 9 0 (counts 1 0 1 2)) ∷
+    asked (answerOf (bytesOf "{:\n x}") (bytesOf "r\"{:\n x}\"") (ask 2 (Hashes.Raw 0) true false) (rooms 1 0 1 1)) (answered 9 0 (counts 1 0 1 2) 0) ∷
     []
+
+-- how many arguments a text's pieces want, no style and no snippet
+abbrev pub wanted : ℕ → String → ℕ
+wanted mode t = answerOf (bytesOf t) [] (ask mode Hashes.Plain false false) rooms256 .arguments
+
+-- how many arguments texts want, and how many they are to want, one under the other
+abbrev pub texts : List ℕ
+texts =
+    wanted 0 "" ∷
+    wanted 0 "a{{" ∷
+    wanted 0 "{}" ∷
+    -- a star comes before its own place
+    wanted 0 "{:.*} {} {}" ∷
+    -- a number that is written, before and behind those that are not
+    wanted 0 "{7}{}" ∷
+    wanted 0 "{}{}{1}" ∷
+    wanted 0 "{65535}" ∷
+    -- a width's and a precision's argument
+    wanted 0 "{:1$}" ∷
+    wanted 0 "{0:.5$}" ∷
+    wanted 0 "{a:.*}" ∷
+    -- a fixed number is no argument's, nor is a name
+    wanted 0 "{:7}" ∷
+    wanted 0 "{:.7}" ∷
+    wanted 0 "{a}" ∷
+    wanted 0 "{a:b$}" ∷
+    -- over range adds nothing
+    wanted 0 "{65536}" ∷
+    wanted 0 "{:65536$}" ∷
+    wanted 0 "{a:.65536$}" ∷
+    -- a field met in recovery adds nothing, and yet takes a number
+    wanted 0 "{a.}" ∷
+    wanted 0 "{a.}{}" ∷
+    wanted 0 "{a.7}" ∷
+    wanted 0 "{a.b:.*}" ∷
+    wanted 0 "{a.b:9$}" ∷
+    -- nothing is read behind a lone `}`
+    wanted 0 "{}}{7}" ∷
+    -- in the other modes a spec has no number
+    wanted 1 "{}{:x}" ∷
+    wanted 2 "{:.*}" ∷
+    []
+
+abbrev pub their : List ℕ
+their = 0 ∷ 0 ∷ 1 ∷ 4 ∷ 8 ∷ 2 ∷ 65536 ∷ 2 ∷ 6 ∷ 1 ∷ 1 ∷ 1 ∷ 0 ∷ 0 ∷ 0 ∷ 1 ∷ 0 ∷ 0 ∷ 2 ∷ 0 ∷ 0 ∷ 0 ∷ 1 ∷ 2 ∷ 1 ∷ []
 
 -- THE BENCH: each case is what the definitions give for its call
 pub bench :
@@ -288,7 +336,8 @@ pub bench :
     (allGiven further ≡ further) ×
     (allGiven large ≡ large) ×
     (allGiven notices ≡ notices) ×
-    (answers refused ≡ expectations refused)
+    (answers refused ≡ expectations refused) ×
+    (texts ≡ their)
 unfolding
     allGiven bytesOf answers expectations pick within member start continue space isSpace isStart isContinue low high sequenceOf charOf sequenceAt decode peekAt
     valid validPrefix charsAt charsFrom takeWhile bytes runEnd frameOf body hashMarks opening closing rawLiteral same isLiteral endOf
@@ -296,8 +345,8 @@ unfolding
     isDigit decimal numeral digitsAt numberFrom numberRead isEmpty numberCount nameCount countRead isR rawPlace wordPlace placeRead isAlign
     fillRead alignRead signRead plainWidth widthRead afterDot precisionRead hexType isHexOrHash debugType wordType typeRead formatRead
     diagnosticType specRead argumentRead noMarks noCounts isDefault isIdentifier gapAt fieldRead recoverRead
-    missingRead placeholderRead afterOpen afterClose stepAt stepsFrom reading argumentSlots missingSlots closingSlots stepSlots wrong
+    missingRead placeholderRead larger argumentWants wants afterOpen afterClose stepAt stepsFrom reading argumentSlots missingSlots closingSlots stepSlots wrong
     faultsOf marked recordOf before charsIn newlines cut lineAfter endedLines lineStart gather pieces frontOnly backOnly reversed listed records
     findings found errors places literalChars toTheEnd sameSpan isLast linesIn lines countsOf isLong isBroken endsInNewline lacksNewline modeOf
     frameFor firstOf answerBy answerOf
-bench = (refl, refl, refl, refl, refl)
+bench = (refl, refl, refl, refl, refl, refl)

@@ -17,6 +17,7 @@ use Rattle.placeholder.specs.declared.Place.{Place}
 use Rattle.placeholder.specs.declared.Sign.{Sign}
 use Rattle.placeholder.specs.declared.Spec.{Spec}
 use Rattle.reading.specs.Lists.{pieces, errors, places, lines}
+use Rattle.reading.specs.Wants.{wants}
 use Rattle.reading.specs.Answers.{answered, frameFor, modeFor, answerOf}
 use Rattle.reading.specs.declared.Answer.{Answer}
 use Rattle.reading.specs.declared.Counts.{Counts}
@@ -131,9 +132,9 @@ counts p e a l = record { pieces = p; errors = e; places = a; lines = l }
 abbrev pub rooms : ℕ → ℕ → ℕ → ℕ → Rooms
 rooms p e a l = record { pieces = p; errors = e; places = a; lines = l }
 
--- done: each count is the length of its list
+-- done: each count is the length of its list, and the arguments are those that the pieces want
 abbrev pub done : List Piece → List ErrorRecord → List Span → List Span → Answer
-done ps es ls ns = answered 0 0 (counts (length ps) (length es) (length ls) (length ns))
+done ps es ls ns = answered 0 0 (counts (length ps) (length es) (length ls) (length ns)) (wants ps)
 
 -- a text of some mode, with no style and no snippet
 abbrev pub bare : ℕ → String → List Piece → List ErrorRecord → Case

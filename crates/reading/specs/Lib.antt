@@ -1,4 +1,5 @@
--- What a call takes and gives (Steps, Faults, Records, Lines, Lists, Texts, Answers, Exits, Calls), and computed cases (Cases, Bench).
+-- What a call takes and gives (Wants, Steps, Faults, Records, Lines, Lists, Texts, Answers, Exits, Calls), and computed cases (Cases, Bench).
+pub mod Wants
 pub mod Steps
 pub mod Faults
 pub mod Records

@@ -11,12 +11,13 @@ use Rattle.frame.specs.declared.Frame.{Frame}
 use Rattle.scan.specs.Characters.{consumed, textEnd}
 use Rattle.closing.specs.Wholes.{placeholderRead}
 use Rattle.frame.specs.declared.Mode.{Mode}
+use Rattle.reading.specs.Wants.{larger, argumentWants}
 use Rattle.reading.specs.declared.State.{State}
 use Rattle.reading.specs.declared.Step.{Step}
 use Rattle.reading.specs.declared.Onward.{Onward}
 
-abbrev pub stateOf : TextPlace → ℕ → State
-stateOf at n = record { at = at; next = n }
+abbrev pub stateOf : TextPlace → ℕ → ℕ → State
+stateOf at n w = record { at = at; next = n; arguments = w }
 
 -- "`{{` or `}}` with the run after it"; "A literal's view starts at the second brace of a doubled one." (R5.1, R5.2)
 unfoldable pub afterOpen : List ℕ → Frame → Mode → TextPlace → TextPlace → ℕ → Step
@@ -41,12 +42,12 @@ stepAt t f m s =
     (Step.Literal (rangeOf (s .at) (textEnd t (s .at))))))
     Step.End
 
--- where reading goes on after a step from a state (R5.1, R8.6)
+-- where reading goes on after a step from a state; an argument may want more than those before it (R5.1, R8.6, R5.19)
 abbrev pub onward : State → Step → Onward
 onward s Step.End = Onward.Over
 onward s (Step.Stop p) = Onward.Over
-onward s (Step.Literal r) = Onward.To (stateOf (r .end) (s .next))
-onward s (Step.Placeholder p) = Onward.To (stateOf (p .at) (p .next))
+onward s (Step.Literal r) = Onward.To (stateOf (r .end) (s .next) (s .arguments))
+onward s (Step.Placeholder p) = Onward.To (stateOf (p .at) (p .next) (larger (s .arguments) (argumentWants (p .argument))))
 
 -- what follows a step
 abbrev pub follow : (State → List Step) → Onward → List Step
@@ -59,7 +60,7 @@ stepsFrom zero t f m s = []
 stepsFrom (suc k) t f m s = stepAt t f m s ∷ follow (stepsFrom k t f m) (onward s (stepAt t f m s))
 
 abbrev pub start : State
-start = stateOf (place 0) 0
+start = stateOf (place 0) 0 0
 
 -- the steps of a text, to the first None: each but the last passes a byte (R1.7)
 unfoldable pub reading : List ℕ → Frame → Mode → List Step

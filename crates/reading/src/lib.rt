@@ -6,10 +6,11 @@ use frame::TextRange;
 use placeholder::Argument;
 use placeholder::MaybeSpan;
 
-// Where reading stands, and the next argument's number.
+// Where reading stands, the next argument's number, and how many arguments the pieces so far want.
 pub struct State {
     pub at: TextPlace,
     pub next: usize,
+    pub arguments: usize,
 }
 
 // What one step comes to: the end of the text, a lone `}` at a place, a literal's view, or a placeholder.
@@ -113,9 +114,11 @@ pub struct Rooms {
     pub lines: usize,
 }
 
-// The rules' number (0: done), the place (of 4, else 0), and the records needed (of 0 and 6 to 9, else none).
+// The rules' number (0: done), the place (of 4, else 0), the records needed (of 0 and 6 to 9, else none), and how many arguments
+// the pieces want (of 0, else 0).
 pub struct Answer {
     pub number: u8,
     pub place: usize,
     pub counts: Counts,
+    pub arguments: usize,
 }

@@ -3,7 +3,7 @@ use reading::Answer;
 use reading::ErrorRecord;
 use reading::Piece;
 
-// `answer`, the number, the place and the four counts.
+// `answer`, the number, the place, the four counts, and the arguments.
 pub fn answer_line(out: &mut [u8], used: usize, answer: Answer) -> usize {
     let counts = answer.counts;
     let n = listing::words(out, used, b"answer ");
@@ -13,7 +13,7 @@ pub fn answer_line(out: &mut [u8], used: usize, answer: Answer) -> usize {
     let n = after_space(out, n, counts.errors);
     let n = after_space(out, n, counts.places);
     let n = after_space(out, n, counts.lines);
-    listing::byte(out, n, b'\n')
+    listing::heading(out, n, b" arguments ", answer.arguments)
 }
 
 // A refusal in short: `answer`, its number and its place.

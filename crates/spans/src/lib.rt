@@ -88,6 +88,7 @@ pub fn fill_places(text: &[u8], frame: Frame, mode: Mode, out: &mut [usize])
     let mut state = State {
         at: TextPlace(0),
         next: 0,
+        arguments: 0,
     };
     let mut n = 0;
     let mut left = text.len() + 1;
@@ -235,6 +236,7 @@ pub fn fill_lines(text: &[u8], frame: Frame, mode: Mode, out: &mut [usize])
     let mut state = State {
         at: TextPlace(0),
         next: 0,
+        arguments: 0,
     };
     let mut run = LineRun {
         line: frame::to_snippet(frame, TextPlace(0)),

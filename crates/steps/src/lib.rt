@@ -1,4 +1,6 @@
 // One step of the reader: a doubled brace with the run after it, a run, a placeholder, a lone `}`, or the end.
+use crate::wants::argument_wants;
+use crate::wants::larger_of;
 use frame::Frame;
 use frame::Mode;
 use frame::TextPlace;
@@ -10,8 +12,10 @@ ghost use mathlib.Core.Path.{_≡_};
 ghost use Prim.Native.Nat.{_<_};
 ghost use Rattle.frame.specs.Bounds.{Small};
 ghost use Rattle.reading.specs.Steps.{afterOpen, afterClose, stepAt, onward};
+ghost use Rattle.laws.specs.Numbered.{Few};
 
 pub mod text; // text.rt: a literal's bytes
+pub mod wants; // wants.rt: how many arguments a piece wants
 
 // After the `{` at `brace`: a second one doubles it, and the literal's view starts there; else a placeholder.
 fn after_open(
@@ -70,8 +74,9 @@ pub fn step_at(text: &[u8], frame: Frame, mode: Mode, state: State) -> Step
     Step::Literal(TextRange { start: at, end })
 }
 
-// Where reading goes on after a step from a state.
+// Where reading goes on after a step from a state, and how many arguments the pieces so far want.
 pub fn go_on(state: State, step: Step) -> Onward
+    requires { ⌜ Few step ⌝ }
     ensures { λ r. ⌜ r ≡ onward state step ⌝ }
 {
     match step {
@@ -82,13 +87,21 @@ pub fn go_on(state: State, step: Step) -> Onward
             Onward::To(State {
                 at,
                 next: state.next,
+                arguments: state.arguments,
             })
         }
         Step::Placeholder(read) => {
             let at = read.at;
+            let argument = read.argument;
+            let place = argument.place;
+            let spec = argument.spec;
+            let width = spec.width;
+            let precision = spec.precision;
+            let own = argument_wants(place, width, precision);
             Onward::To(State {
                 at,
                 next: read.next,
+                arguments: larger_of(state.arguments, own),
             })
         }
     }

@@ -1,4 +1,4 @@
-// How many records each list of a reading needs.
+// How many records each list of a reading needs, and how many arguments its pieces want.
 use closing::recover::Gap;
 use closing::recover::Hint;
 use closing::recover::Recovery;
@@ -22,8 +22,15 @@ ghost use lib.ListN.{length};
 ghost use Rattle.frame.specs.Bounds.{Small};
 ghost use Rattle.reading.specs.Faults.{flawFault, hintFault, argumentSlots, missingSlots, closingSlots, wrong, faultsOf};
 ghost use Rattle.reading.specs.Lines.{charsIn, newlines};
-ghost use Rattle.reading.specs.Lists.{countsOf};
+ghost use Rattle.reading.specs.Lists.{pieces, countsOf};
+ghost use Rattle.reading.specs.Wants.{wants};
 ghost use Rattle.laws.specs.Counting.{Countable, sum, pieceCount, placeCount, closingLines, lineCount, stepCounts};
+
+// How many records, and how many arguments.
+pub struct Tallied {
+    pub counts: Counts,
+    pub arguments: usize,
+}
 
 // How many newlines stand in a part of the text.
 fn newlines_in(text: &[u8], part: TextRange) -> usize
@@ -223,14 +230,15 @@ fn add(a: Counts, b: Counts) -> Counts
     }
 }
 
-// How many records the reading of a text needs in each list.
-pub fn tally(text: &[u8], frame: Frame, mode: Mode) -> Counts
+// How many records the reading of a text needs in each list; the state keeps how many arguments its pieces want.
+pub fn tally(text: &[u8], frame: Frame, mode: Mode) -> Tallied
     requires { ⌜ Small (now text) frame ⌝ }
-    ensures { λ r. ⌜ r ≡ countsOf (now (text .entry)) frame mode ⌝ }
+    ensures { λ r. ⌜ (r .counts ≡ countsOf (now (text .entry)) frame mode) × (r .arguments ≡ wants (pieces (now (text .entry)) frame mode)) ⌝ }
 {
     let mut state = State {
         at: TextPlace(0),
         next: 0,
+        arguments: 0,
     };
     let mut counts = Counts {
         pieces: 0,
@@ -244,7 +252,10 @@ pub fn tally(text: &[u8], frame: Frame, mode: Mode) -> Counts
         counts = add(counts, step_counts(text, frame, step));
         match steps::go_on(state, step) {
             Onward::Over => {
-                return counts;
+                return Tallied {
+                    counts,
+                    arguments: state.arguments,
+                };
             }
             Onward::To(after) => {
                 state = after;
@@ -252,5 +263,8 @@ pub fn tally(text: &[u8], frame: Frame, mode: Mode) -> Counts
             }
         }
     }
-    counts
+    Tallied {
+        counts,
+        arguments: state.arguments,
+    }
 }

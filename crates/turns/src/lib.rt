@@ -47,6 +47,7 @@ pub fn first_cursor(text: &[u8]) -> Cursor
     let state = State {
         at: TextPlace(0),
         next: 0,
+        arguments: 0,
     };
     Cursor {
         state,

@@ -12,18 +12,18 @@ room-for-requires c κs = tt
 
 -- where the number is 0 each list has room
 room : (c : tie.Then1) →
-    let s = c .before .before .before .before .before .before .before .before .args in
+    let s = c .before .before .before .before .before .before .before .before .before .args in
     Ready (now (s .text)) (s .frame) (s .mode) (now (s .pieces)) (now (s .errors)) (now (s .places)) (now (s .lines))
-room c = ready _ _ _ _ _ _ _ (c .before .room-for .ensures) (c .before .before .tally .ensures) (c .before .before .before .before .before .before .before .before .pre .1) (c .if1 .taken)
+room c = ready _ _ _ _ _ _ _ (c .before .room-for .ensures) (c .before .before .before .tally .ensures .0) (c .before .before .before .before .before .before .before .before .before .pre .1) (c .if1 .taken)
 
 fill-requires : tie.Need-fill-requires
-fill-requires c κs = let r = room (c .before .before) in (c .before .before .before .before .before .before .before .before .before .before .pre .0, r .pieces, r .errors)
+fill-requires c κs = let r = room (c .before .before) in (c .before .before .before .before .before .before .before .before .before .before .before .pre .0, r .pieces, r .errors)
 
 fill-places-requires : tie.Need-fill-places-requires
-fill-places-requires c κs = (c .before .before .before .before .before .before .before .before .before .before .before .before .before .before .before .before .pre .0, room (c .before .before .before .before .before .before .before .before) .places)
+fill-places-requires c κs = (c .before .before .before .before .before .before .before .before .before .before .before .before .before .before .before .before .before .pre .0, room (c .before .before .before .before .before .before .before .before) .places)
 
 fill-lines-requires : tie.Need-fill-lines-requires
-fill-lines-requires c κs = (c .before .before .before .before .before .before .before .before .before .before .before .before .before .before .before .before .before .before .before .before .pre .0, room (c .before .before .before .before .before .before .before .before .before .before .before .before) .lines)
+fill-lines-requires c κs = (c .before .before .before .before .before .before .before .before .before .before .before .before .before .before .before .before .before .before .before .before .before .pre .0, room (c .before .before .before .before .before .before .before .before .before .before .before .before) .lines)
 
 same-length : tie.Need-same-length
 same-length c = c .before .before .before .before .before .before .before .before .before .before .before .before .fill .kept .1 .1 .1 .0
@@ -39,12 +39,12 @@ same-length-4 c = c .before .before .fill-lines .kept .1 .1 .1 .0
 
 returns : tie.Need-returns
 returns c =
-    done-by _ _ _ _ _ _ _ (c .before .before .before .before .before .before .before .before .before .before .before .before .before .before .before .before .room-for .ensures) (c .before .before .before .before .before .before .before .before .before .before .before .before .before .before .before .before .before .tally .ensures) (c .before .before .before .before .before .before .before .before .before .before .before .before .before .before .before .before .before .before .before .before .before .before .before .pre .1) (c .before .before .before .before .before .before .before .before .before .before .before .before .before .before .before .if1 .taken)
+    done-by _ _ _ _ _ _ _ (c .before .before .before .before .before .before .before .before .before .before .before .before .before .before .before .before .room-for .ensures) (c .before .before .before .before .before .before .before .before .before .before .before .before .before .before .before .before .before .before .tally .ensures .0) (c .before .before .before .before .before .before .before .before .before .before .before .before .before .before .before .before .before .before .before .before .before .before .before .before .pre .1) (c .before .before .before .before .before .before .before .before .before .before .before .before .before .before .before .before .before .before .tally .ensures .1) (c .before .before .before .before .before .before .before .before .before .before .before .before .before .before .before .if1 .taken)
     (c .before .before .before .before .before .before .before .before .before .before .before .before .fill .ensures .wrote-pieces) (c .before .before .before .before .before .before .before .before .before .before .before .before .fill .ensures .wrote-errors) (c .before .before .before .before .before .before .fill-places .ensures)
     (c .before .before .fill-lines .ensures)
 
 returns-2 : tie.Need-returns-2
-returns-2 c = refused-by _ _ _ _ _ _ _ (c .before .room-for .ensures) (c .before .before .tally .ensures) (c .before .before .before .before .before .before .before .before .pre .1) (c .if1 .left)
+returns-2 c = refused-by _ _ _ _ _ _ _ (c .before .room-for .ensures) (c .before .before .before .tally .ensures .0) (c .before .before .before .before .before .before .before .before .before .pre .1) (c .if1 .left)
 
 pub counted-spec : {M : Type 1} → statement M
 counted-spec =

@@ -30,6 +30,7 @@ use Rattle.placeholder.specs.declared.Fill.{Fill}
 use Rattle.placeholder.specs.declared.Place.{Place}
 use Rattle.placeholder.specs.declared.Spec.{Spec}
 use Rattle.placeholder.specs.declared.position.PlaceRead.{PlaceRead}
+use Rattle.placeholder.specs.declared.Argument.{Argument}
 use Rattle.placeholder.specs.declared.between.ArgumentRead.{ArgumentRead}
 use Rattle.placeholder.specs.declared.MaybeSpan.{MaybeSpan}
 use Rattle.placeholder.specs.declared.format.FillRead.{FillRead}
@@ -45,7 +46,8 @@ use Rattle.closing.specs.declared.recover.Hint.{Hint}
 use Rattle.closing.specs.declared.recover.Recovery.{Recovery}
 use Rattle.closing.specs.declared.whole.Closing.{Closing}
 use Rattle.closing.specs.declared.whole.PlaceholderRead.{PlaceholderRead}
-use Rattle.reading.specs.Steps.{afterOpen, stepAt, onward, follow, stepsFrom, start, reading}
+use Rattle.reading.specs.Wants.{larger, placeWants, countWants, argumentWants}
+use Rattle.reading.specs.Steps.{stateOf, afterOpen, stepAt, onward, follow, stepsFrom, start, reading}
 use Rattle.reading.specs.Faults.{stepSlots, faultsOf, Finding}
 use Rattle.reading.specs.Records.{recordOf}
 use Rattle.reading.specs.Lists.{gather, piecesOf, pieces, listed, records, findings, found, errors}
@@ -318,12 +320,26 @@ module _ (t : List ℕ) (f g : Frame) (m : Mode) where
       (pick-same stepOf _ (pick-same stepOf _ refl (ap Step.Placeholder (placeholder-any (s .at) _ (s .next)))) (pick-same stepOf _ refl refl))
       refl
 
+-- no span says how many arguments are wanted
+count-wants : (x : Count) → countWants x ≡ countWants (S.count x)
+count-wants Count.Implied = refl
+count-wants (Count.Fixed n) = refl
+count-wants (Count.ByName r s) = refl
+count-wants (Count.ByArgument n) = refl
+count-wants (Count.ByStar n) = refl
+
+pub argument-wants : (x : Argument) → argumentWants x ≡ argumentWants (S.argument x)
+unfolding argumentWants
+argument-wants x =
+    ap (λ (n : ℕ). larger (placeWants (x .place)) (larger n (countWants (x .spec .precision)))) (count-wants (x .spec .width))
+    ∙ ap (λ (n : ℕ). larger (placeWants (x .place)) (larger (countWants (S.count (x .spec .width))) n)) (count-wants (x .spec .precision))
+
 -- a step goes on as it does without spans
 onward-same : (s : State) (x : Step) → onward s x ≡ onward s (stepOf x)
 onward-same s Step.End = refl
 onward-same s (Step.Stop p) = refl
 onward-same s (Step.Literal r) = refl
-onward-same s (Step.Placeholder p) = refl
+onward-same s (Step.Placeholder p) = ap (λ (n : ℕ). Onward.To (stateOf (p .at) (p .next) (larger (s .arguments) n))) (argument-wants (p .argument))
 
 follow-any : (f g : State → List Step) → ((s : State) → map stepOf (f s) ≡ map stepOf (g s)) → (s : State) (x y : Step) → stepOf x ≡ stepOf y →
     map stepOf (x ∷ follow f (onward s x)) ≡ map stepOf (y ∷ follow g (onward s y))

@@ -25,6 +25,7 @@ use Rattle.scan.specs.ScanLaws.{plain-high, seen-elim, is-at-in, is-at-byte, co
 use Rattle.closing.specs.Wholes.{placeholderRead, missingRead}
 use Rattle.closing.specs.OnwardLaws.{placeholder-on, placeholder-in}
 use Rattle.closing.specs.declared.whole.PlaceholderRead.{PlaceholderRead}
+use Rattle.reading.specs.Wants.{larger, argumentWants}
 use Rattle.reading.specs.Steps.{stateOf, afterOpen, afterClose, stepAt, onward, follow, stepsFrom, start, reading}
 use Rattle.reading.specs.Faults.{stepSlots, wrong, faultsOf}
 use Rattle.reading.specs.Lists.{gather, piecesOf, pieces, errors}
@@ -209,16 +210,16 @@ module _ (t : List ℕ) (f : Frame) (m : Mode) where
   then : (s : State) (x : Step) (go : State → List Step) → Passed t (s .at .0) x →
       ((q : State) → q .at .0 ≤ length t → s .at .0 < q .at .0 → Tiled (q .at .0) (go q)) →
       Tiled (s .at .0) (x ∷ follow go (onward s x))
-  unfolding gather faultsOf stepSlots wrong pick
+  unfolding gather faultsOf stepSlots wrong pick argumentWants
   then s Step.End go p more = record { stop = s .at .0; tiles = refl; ends = inl (p, tt) }
   then s (Step.Stop q) go p more = record { stop = s .at .0; tiles = refl; ends = inr (p, (q, inl refl)) }
   then s (Step.Literal r) go p more =
       let v = p .view in
       let b : s .at .0 < r .end .0 = ⊎-elim (λ h. omega (arith, h .0, v .some)) (λ h. omega (arith, h .0, v .some)) (v .begins) in
-      let x = more (stateOf (r .end) (s .next)) (p .inside) b in
+      let x = more (stateOf (r .end) (s .next) (s .arguments)) (p .inside) b in
       record { stop = x .stop; tiles = (v, x .tiles); ends = x .ends }
   then s (Step.Placeholder y) go p more =
-      let x = more (stateOf (y .at) (y .next)) (p .inside) (p .on) in
+      let x = more (stateOf (y .at) (y .next) (larger (s .arguments) (argumentWants (y .argument)))) (p .inside) (p .on) in
       record {
         stop = x .stop;
         tiles = rw (p .stands) (record { begins = p .starts; brace = p .brace; some = p .on }, x .tiles);

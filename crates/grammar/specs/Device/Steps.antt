@@ -25,6 +25,7 @@ use Rattle.closing.specs.Wholes.{recordOf, missingRead, placeholderRead}
 use Rattle.closing.specs.declared.recover.Gap.{Gap}
 use Rattle.closing.specs.declared.recover.Recovery.{Recovery}
 use Rattle.closing.specs.declared.whole.PlaceholderRead.{PlaceholderRead}
+use Rattle.reading.specs.Wants.{larger, argumentWants}
 use Rattle.reading.specs.Steps.{stateOf, afterOpen, afterClose, stepAt, onward}
 use Rattle.reading.specs.Faults.{isClean, argumentSlots, missingSlots, closingSlots, stepSlots, wrong as wrongOnes, faultsOf}
 use Rattle.reading.specs.Lists.{piecesOf}
@@ -113,7 +114,7 @@ module _ (t : List ℕ) (f : Frame) (m : Mode) where
       let q : written e (dropW isPlain cs) ≡ c ∷ cs = cc (take-drop isPlain cs) in
       let p = element-end (s .at .0) (textEnd t (s .at) .0) e (c ∷ cs) (dropW isPlain cs) q h u in
       record {
-        to = stateOf (textEnd t (s .at)) (s .next);
+        to = stateOf (textEnd t (s .at)) (s .next) (s .arguments);
         goes = refl;
         stands = u;
         number = refl;
@@ -135,7 +136,7 @@ module _ (t : List ℕ) (f : Frame) (m : Mode) where
       let u = text-left t (place (s .at .0 + 1 + 1)) ds k in
       let p = element-end (s .at .0) (to .0) e cs (dropW isPlain ds) q h u in
       record {
-        to = stateOf to (s .next);
+        to = stateOf to (s .next) (s .arguments);
         goes = refl;
         stands = u;
         number = sym n;
@@ -196,7 +197,7 @@ module _ (t : List ℕ) (f : Frame) (m : Mode) where
       λ i. record { place = x .place ok i; placespan = here i; spec = x .spec ok l i; range = range i } in
       rw (consume-yes t end 0x7D (0x7D ∷ ds) u refl)
       (record {
-        to = stateOf (place (end .0 + 1)) (a .next);
+        to = stateOf (place (end .0 + 1)) (a .next) (larger (s .arguments) (argumentWants (recordOf t f (s .at) a (place (end .0 + 1)))));
         goes = refl;
         stands = v;
         number = x .next ok;

@@ -14,6 +14,7 @@ use Rattle.frame.specs.Frames.{frameOf, isLiteral}
 use Rattle.frame.specs.declared.Mode.{Mode}
 use Rattle.frame.specs.declared.Style.{Style}
 use Rattle.reading.specs.Lists.{pieces, errors, places, lines, countsOf}
+use Rattle.reading.specs.Wants.{wants}
 use Rattle.reading.specs.Answers.{answered, isStyled, isLong, endsInNewline, lacksNewline, styleOf, frameFor, modeFor, answerOf}
 use Rattle.reading.specs.Written.{over}
 use Rattle.reading.specs.Exits.{atExit}
@@ -100,6 +101,12 @@ room-only : (n : ℕ) (r : Rooms) → roomFor (piecesOnly n) r ≡ pick (ltb (r 
 unfolding roomFor pick
 room-only n r = rw (le-ltb (r .errors) 0 (omega arith), le-ltb (r .places) 0 (omega arith), le-ltb (r .lines) 0 (omega arith))
 
+-- without room none is said to be wanted
+said-room : (short : Bool) (w : ℕ) → pick (eqb (pick short 6 0) 0) w 0 ≡ pick short 0 w
+unfolding pick
+said-room true w = refl
+said-room false w = refl
+
 -- THE TESTS BEFORE A TEXT IS READ: what an answer of 0 says of them
 passes : (mode styled long broken lacks : Bool) (prefix : ℕ) (a : Answer) →
     let x =
@@ -149,10 +156,11 @@ not-long t s given l e = rw (le-ltb 65535 (length t) l, e)
 -- THE ANSWER for the joined text: the pieces are counted, and a list too short for them is all that is refused
 pub joined-answer : (t u s w : List ℕ) (q : Request) (r k : Rooms) (xs : List Piece) → WellFormed (t ++ u) → length (t ++ u) ≤ 65535 → q .given ≡ false →
     answerOf u w q k .number ≡ 0 → pieces (t ++ u) (frameFor (t ++ u) s q) (modeFor q) ≡ xs → errors (t ++ u) (frameFor (t ++ u) s q) (modeFor q) ≡ [] →
-    answerOf (t ++ u) s q r ≡ answered (pick (ltb (r .pieces) (length xs)) 6 0) 0 (piecesOnly (length xs))
+    let short = ltb (r .pieces) (length xs) in
+    answerOf (t ++ u) s q r ≡ answered (pick short 6 0) 0 (piecesOnly (length xs)) (pick short 0 (wants xs))
 unfolding countedAnswer pick
 joined-answer t u s w q r k xs v l e z p n =
     let x = tests u w q k z in
     let counts = counts-only (t ++ u) s q xs e p n in
     answer-decided (t ++ u) s q r
-    ∙ rw (x .0, x .1, not-long (t ++ u) s (q .given) l e, broken-exactly (t ++ u) .1 v, lacks-append t u (q .newline) (x .2), counts, room-only (length xs) r)
+    ∙ rw (x .0, x .1, not-long (t ++ u) s (q .given) l e, broken-exactly (t ++ u) .1 v, lacks-append t u (q .newline) (x .2), counts, room-only (length xs) r, p, said-room (ltb (r .pieces) (length xs)) (wants xs))

@@ -3,6 +3,7 @@
 use borrow.Author.Needs.{needs}
 use mathlib.Core.Path.{sym, _∙_}
 use native.Mathlib.Omega.{arith}
+use Rattle.laws.specs.WantLaws.{few-step}
 use Rattle.member.proofs.Meeting.{Walk, walk-start, walk-few, walk-none, walk-wrong, walk-over, walk-on}
 use Rattle.member.proofs.checked.Statement.{statement}
 use Rattle.member.proofs.checked.Tie as tie
@@ -39,7 +40,8 @@ met-step-requires c κs =
     walk-few _ _ (at-loop .before .before .before .before .pre .text) (at-loop .loop .inv)
 
 go-on-requires : tie.Need-go-on-requires Inv-loop μ-loop
-go-on-requires c κs = tt
+go-on-requires c κs =
+    few-step _ _ _ _ (omega (arith, c .before .before .before .before .before .loop .inv .kept .next)) (c .before .before .before .step-at .ensures)
 
 enum-told : tie.Need-enum-told Inv-loop μ-loop
 enum-told c = search needs

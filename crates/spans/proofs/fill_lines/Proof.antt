@@ -11,6 +11,7 @@ use Rattle.laws.specs.StepLaws.{steps-none}
 use Rattle.reading.specs.Lists.{lines}
 use Rattle.reading.specs.Written.{over, pairs}
 use Rattle.spans.specs.Fills.{lastOf}
+use Rattle.laws.specs.WantLaws.{few-step}
 use Rattle.laws.specs.WalkLaws.{Kept, kept-start, kept-on}
 use Rattle.spans.proofs.Filling.{Going, going-first, going-done, going-room, going-on, put-over}
 use Rattle.laws.specs.ListLaws.{no-lines}
@@ -61,7 +62,7 @@ put-step-requires c κs =
     )
 
 go-on-requires : tie.Need-go-on-requires Inv-loop μ-loop
-go-on-requires c κs = tt
+go-on-requires c κs = few-step _ _ _ _ (omega (arith, c .before .before .before .before .before .before .loop .inv .1 .next)) (c .before .before .before .before .step-at .ensures)
 
 enum-told : tie.Need-enum-told Inv-loop μ-loop
 enum-told c = search needs

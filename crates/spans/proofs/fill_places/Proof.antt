@@ -10,6 +10,7 @@ use Rattle.reading.specs.Steps.{stepsFrom, reading}
 use Rattle.laws.specs.StepLaws.{steps-none}
 use Rattle.reading.specs.Lists.{gather, placesOf, places}
 use Rattle.reading.specs.Written.{over, pairs}
+use Rattle.laws.specs.WantLaws.{few-step}
 use Rattle.laws.specs.WalkLaws.{Kept, kept-start, kept-on}
 use Rattle.spans.proofs.Filling.{Going, going-first, going-done, going-room, going-on, put-over}
 use Rattle.laws.specs.ListLaws.{no-places}
@@ -55,7 +56,7 @@ put-place-requires c κs =
     (s .pre .0, going-room (l .inv .0) (placesOf (now (a .text)) (a .frame) (c .before .step-at .result)) _ all (omega (arith, s .pre .1)))
 
 go-on-requires : tie.Need-go-on-requires Inv-loop μ-loop
-go-on-requires c κs = tt
+go-on-requires c κs = few-step _ _ _ _ (omega (arith, c .before .before .before .before .before .before .loop .inv .1 .next)) (c .before .before .before .before .step-at .ensures)
 
 enum-told : tie.Need-enum-told Inv-loop μ-loop
 enum-told c = search needs

@@ -7,6 +7,7 @@ use mathlib.Core.Path.{_≡_, refl, sym, ap, _∙_}
 use denote.Ref.{now}
 use Rattle.utf8.specs.Choice.{pick}
 use Rattle.turns.specs.Turns.{Fresh, faultsAt, notes}
+use Rattle.laws.specs.WantLaws.{few-step}
 use Rattle.turns.proofs.Turning.{faults-none, faults-found, faults-over, faults-on, fresh-on, no-more}
 use Rattle.turns.proofs.next_fault.Statement.{statement}
 use Rattle.turns.proofs.next_fault.Tie as tie
@@ -57,7 +58,7 @@ returns c =
     }
 
 go-on-requires : tie.Need-go-on-requires Inv-loop μ-loop
-go-on-requires c κs = tt
+go-on-requires c κs = few-step _ _ _ _ (omega (arith, c .before .before .before .before .before .before .loop .inv .1 .0 .next)) (c .before .before .step-at .ensures)
 
 enum-told : tie.Need-enum-told Inv-loop μ-loop
 enum-told c = search needs

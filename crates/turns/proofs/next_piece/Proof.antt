@@ -6,6 +6,7 @@ use native.Mathlib.Omega.{arith}
 use mathlib.Core.Path.{sym, _∙_}
 use denote.Ref.{now}
 use Rattle.utf8.specs.Choice.{pick}
+use Rattle.laws.specs.WantLaws.{few-step}
 use Rattle.turns.proofs.Turning.{pieces-none, pieces-over, pieces-on, fresh-on}
 use Rattle.turns.proofs.next_piece.Statement.{statement}
 use Rattle.turns.proofs.next_piece.Tie as tie
@@ -26,7 +27,9 @@ piece-of-requires-2 : tie.Need-piece-of-requires-2
 piece-of-requires-2 c κs = tt
 
 go-on-requires : tie.Need-go-on-requires
-go-on-requires c κs = tt
+go-on-requires c κs =
+    let s = c .before .before .before .before .before .before in
+    few-step (now (s .args .text)) (s .args .frame) (s .args .mode) (s .args .cursor .state) (omega (arith, s .pre .1 .0 .next)) (c .before .step-at .ensures)
 
 enum-told : tie.Need-enum-told
 enum-told c = search needs

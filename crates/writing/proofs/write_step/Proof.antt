@@ -2,6 +2,7 @@
 use borrow.Author.Needs.{needs}
 use mathlib.Core.Path.{sym, _∙_}
 use denote.Ref.{now}
+use Rattle.laws.specs.WantLaws.{few-step}
 use Rattle.writing.proofs.Stepping.{stepped-on, stepped-over}
 use Rattle.writing.proofs.write_step.Statement.{statement}
 use Rattle.writing.proofs.write_step.Tie as tie
@@ -14,7 +15,7 @@ put-step-requires c κs =
     (c .before .before .before .before .before .before .pre .0, rw (c .before .before .step-at .ensures) (c .before .before .before .before .before .before .pre .2))
 
 go-on-requires : tie.Need-go-on-requires
-go-on-requires c κs = search needs
+go-on-requires c κs = few-step _ _ _ _ (c .before .before .before .before .before .before .before .before .before .before .before .pre .1) (c .before .before .before .before .before .before .before .step-at .ensures)
 
 enum-told : tie.Need-enum-told
 enum-told c = search needs

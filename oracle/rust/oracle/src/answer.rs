@@ -8,11 +8,13 @@ const MOST_HASHES: u16 = 255;
 const LONGEST_TEXT: usize = 65_535;
 const LONGEST_SNIPPET: usize = 66_048;
 
-/// The number (0 for done), the place, the counts, and the records if done.
+/// The number (0 for done), the place, the counts, how many arguments the pieces want (0 if
+/// refused), and the records if done.
 pub struct Answer<'t> {
     pub number: u8,
     pub place: usize,
     pub counts: [usize; 4],
+    pub arguments: usize,
     pub reading: Option<Reading<'t>>,
 }
 
@@ -22,14 +24,17 @@ impl<'t> Answer<'t> {
         let text = match readable_text(case) {
             Ok(text) => text,
             Err((number, place)) => {
-                return Answer { number, place, counts: [0; 4], reading: None };
+                return Answer { number, place, counts: [0; 4], arguments: 0, reading: None };
             }
         };
         let reading = Reading::of(case, text);
         let counts = reading.counts();
         match short_list(&counts, &case.rooms) {
-            None => Answer { number: 0, place: 0, counts, reading: Some(reading) },
-            Some(number) => Answer { number, place: 0, counts, reading: None },
+            None => {
+                let arguments = reading.arguments();
+                Answer { number: 0, place: 0, counts, arguments, reading: Some(reading) }
+            }
+            Some(number) => Answer { number, place: 0, counts, arguments: 0, reading: None },
         }
     }
 }

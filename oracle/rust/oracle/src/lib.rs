@@ -13,3 +13,4 @@ pub mod members;
 pub mod pairs;
 pub mod ranges;
 pub mod reading;
+pub mod wants;

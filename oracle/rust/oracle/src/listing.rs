@@ -24,7 +24,7 @@ impl Listing {
         for &count in &answer.counts {
             self.number(count);
         }
-        self.end();
+        self.word("arguments").number(answer.arguments).end();
         if let Some(reading) = &answer.reading {
             self.reading(reading);
         }
@@ -116,12 +116,7 @@ impl Listing {
         span: Option<&Range<usize>>,
         dot: usize,
     ) -> &mut Self {
-        let span = span.expect("a count with a number has a span");
-        if is_over(reading.text, span.start - reading.quote_offset + dot) {
-            self.word("over")
-        } else {
-            self.number(number)
-        }
+        if reading.is_count_over(span, dot) { self.word("over") } else { self.number(number) }
     }
 
     fn error(&mut self, error: &ErrorRecord<'_>) {

@@ -142,9 +142,18 @@ fn an_empty_type_is_where_reading_stood() {
 
 #[test]
 fn spans_lack_the_quote_offset_at_the_end_of_the_text() {
-    assert_eq!(records(FORMAT, "{_", "err")[0], "err 6 2..2 second - quoted - suggestion - piece 0");
-    assert_eq!(records(FORMAT, "{65536", "err")[0], "err 7 2..6 second - quoted 1..6 suggestion - piece 0");
-    assert_eq!(records(FORMAT, "{r#a", "err")[0], "err 4 2..4 second - quoted - suggestion 2..4 piece 0");
+    assert_eq!(
+        records(FORMAT, "{_", "err")[0],
+        "err 6 2..2 second - quoted - suggestion - piece 0"
+    );
+    assert_eq!(
+        records(FORMAT, "{65536", "err")[0],
+        "err 7 2..6 second - quoted 1..6 suggestion - piece 0"
+    );
+    assert_eq!(
+        records(FORMAT, "{r#a", "err")[0],
+        "err 4 2..4 second - quoted - suggestion 2..4 piece 0"
+    );
 }
 
 /// The width and the precision of the only argument of a plain text, each as `COUNT SPAN`.
@@ -232,5 +241,26 @@ fn a_snippet_that_is_too_short_or_not_utf8_ends_at_its_length() {
 #[test]
 fn a_literal_may_have_one_line_more_than_a_text_has_bytes() {
     let draft = source_literal(FORMAT, &"\n".repeat(65_535));
-    assert_eq!(listing_of(&draft), "answer 9 0 1 0 0 65536\n");
+    assert_eq!(listing_of(&draft), "answer 9 0 1 0 0 65536 arguments 0\n");
+}
+
+#[test]
+fn a_text_wants_one_argument_more_than_its_largest_number() {
+    let texts = [
+        ("", 0),
+        ("{a}", 0),
+        ("{:.*} {} {}", 4),
+        ("{7}{}", 8),
+        ("{:1$}", 2),
+        ("{:7}", 1),
+        ("{65535}", 65_536),
+        ("{65536}", 0),
+        ("{:65536$}", 1),
+        ("{a.}", 0),
+        ("{a.}{}", 2),
+    ];
+    for (text, wanted) in texts {
+        let answer = lines_with(&listing_of(&Draft::plain(FORMAT, text)), "answer");
+        assert!(answer[0].ends_with(&format!(" arguments {wanted}")), "{text}");
+    }
 }

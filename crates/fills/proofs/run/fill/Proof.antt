@@ -20,7 +20,7 @@ run-requires-2 c κs =
       s .pre .0,
       omega (arith, s .pre .1, first .kept .1 .1 .1 .1 .0),
       omega (arith, s .pre .2, first .kept .1 .1 .1 .1 .1 .0),
-      omega (arith, first-fronts (now (a .text)) (a .frame) (a .mode) (s .pre .2) (first .ensures)),
+      omega (arith, first-fronts (now (a .text)) (a .frame) (a .mode) (s .pre .2) (first .ensures .0)),
     )
 
 add-t17 : tie.Need-add-t17
@@ -32,7 +32,7 @@ add-t17 c =
       arith,
       s .pre .0 .text,
       few-errors (now (a .text)) (a .frame) (a .mode),
-      first-errors (now (a .text)) (a .frame) (a .mode) (s .pre .2) (first .ensures),
+      first-errors (now (a .text)) (a .frame) (a .mode) (s .pre .2) (first .ensures .0),
     )
 
 same-length : tie.Need-same-length
@@ -53,8 +53,8 @@ returns c =
     ⊎-elim
     (λ w.
     rw (w .8, w .9)
-    (filled-twice (now (a .text)) (a .frame) (a .mode) (s .pre .2) (first .ensures) (w .3 .ensures) (first .kept .1 .1 .1 .1 .1 .0)))
-    (λ w. rw (w .1, w .2) (filled-once (now (a .text)) (a .frame) (a .mode) (s .pre .2) (first .ensures) (omega (arith, w .0 .left))))
+    (filled-twice (now (a .text)) (a .frame) (a .mode) (s .pre .2) (first .ensures .0) (w .3 .ensures .0) (first .kept .1 .1 .1 .1 .1 .0) (first .ensures .1)))
+    (λ w. rw (w .1, w .2) (filled-once (now (a .text)) (a .frame) (a .mode) (s .pre .2) (first .ensures .0) (first .ensures .1) (omega (arith, w .0 .left))))
     (c .before .if1 .came)
 
 pub fill-spec : {M : Type 1} → statement M

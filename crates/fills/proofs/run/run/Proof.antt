@@ -4,7 +4,7 @@ use borrow.Author.Tests.{not-true, not-false}
 use native.Mathlib.Omega.{arith}
 use mathlib.Core.Path.{_∙_}
 use denote.Ref.{now}
-use Rattle.fills.proofs.Running.{Going, going-first, going-none, going-room, going-on, going-over}
+use Rattle.fills.proofs.Running.{Going, going-first, going-none, going-room, going-on, going-over, wanted-none, wanted-over}
 use Rattle.fills.proofs.run.run.Statement.{statement}
 use Rattle.fills.proofs.run.run.Tie as tie
 
@@ -46,8 +46,11 @@ returns c =
     let a = s .args in
     let l = c .before .before .before .before .before .before .before .before .before .before .before .loop in
     let turn = c .before .before .before .before .before .before .before .write-next in
-    going-over (now (a .text)) (a .frame) (a .mode) (a .fronts) (now (a .pieces)) (now (a .errors)) (s .pre .1) (l .state) (l .left) (l .inv) (c .before .before .before .before .before .before .before .before .before .before .loop-test .taken)
-    (turn .ensures) (not-true (turn .result .more) (c .if1 .taken))
+    let more = c .before .before .before .before .before .before .before .before .before .before .loop-test .taken in
+    let none = not-true (turn .result .more) (c .if1 .taken) in (
+      going-over (now (a .text)) (a .frame) (a .mode) (a .fronts) (now (a .pieces)) (now (a .errors)) (s .pre .1) (l .state) (l .left) (l .inv) more (turn .ensures) none,
+      wanted-over (now (a .text)) (a .frame) (a .mode) (a .fronts) (now (a .pieces)) (now (a .errors)) (s .pre .1) (l .state) (l .left) (l .inv) more (turn .ensures) none,
+    )
 
 sub-left : tie.Need-sub-left Inv-loop μ-loop
 sub-left c = omega (arith, c .before .before .before .before .before .before .before .before .before .before .before .loop-test .taken)
@@ -74,8 +77,10 @@ returns-2 : tie.Need-returns-2 Inv-loop μ-loop
 returns-2 c =
     let s = c .before .before .before .before .before in
     let a = s .args in
-    let l = c .before .loop in
-    going-none (now (a .text)) (a .frame) (a .mode) (a .fronts) (now (a .pieces)) (now (a .errors)) (s .pre .1) (l .state) (l .left) (l .inv) (c .loop-test .left)
+    let l = c .before .loop in (
+      going-none (now (a .text)) (a .frame) (a .mode) (a .fronts) (now (a .pieces)) (now (a .errors)) (s .pre .1) (l .state) (l .left) (l .inv) (c .loop-test .left),
+      wanted-none (now (a .text)) (a .frame) (a .mode) (a .fronts) (now (a .pieces)) (now (a .errors)) (s .pre .1) (l .state) (l .left) (l .inv) (c .loop-test .left),
+    )
 
 pub run-spec : {M : Type 1} → statement M
 run-spec =

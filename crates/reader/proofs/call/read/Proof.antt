@@ -467,8 +467,8 @@ module _ {M : Type 1} (𝓤 : URA M) (H : Heap 𝓤) (A : Atoms 𝓤) (W : Given
 
           fills-pieces : Sq W (Known (‵ (froom Fr′.mir l₁₁ 0)) (‵ (froom Mo′.mir l₁₂ 0)) (Held OwnP OwnE OwnL OwnN)) (runs C Λ En then-code (anyQ Arm))
           fills-pieces =
-              assigns ! (of-opd ! (field-of ! 9 44 l₉ (De.struct .name) decision-parts (decision-vals d) 1 48 Fr′.mir refl refl refl)) (from ! (stop !)) (init ! 40 refl (LL.lawful Fr.the-type Fr′.the-laws 𝓤 H A W .typed fr _ isf .0)) $
-              assigns ! (of-opd ! (field-of ! 9 44 l₉ (De.struct .name) decision-parts (decision-vals d) 2 72 Mo′.mir refl refl refl)) (from ! (stop !)) (init ! 38 refl (TL.lawful Mo.the-type Mo′.the-laws 𝓤 H A W tt .typed md _ ism .0)) $
+              assigns ! (of-opd ! (field-of ! 9 44 l₉ (De.struct .name) decision-parts (decision-vals d) 1 56 Fr′.mir refl refl refl)) (from ! (stop !)) (init ! 40 refl (LL.lawful Fr.the-type Fr′.the-laws 𝓤 H A W .typed fr _ isf .0)) $
+              assigns ! (of-opd ! (field-of ! 9 44 l₉ (De.struct .name) decision-parts (decision-vals d) 2 80 Mo′.mir refl refl refl)) (from ! (stop !)) (init ! 38 refl (TL.lawful Mo.the-type Mo′.the-laws 𝓤 H A W tt .typed md _ ism .0)) $
               assigns ! (addr ! (from ! (fld ! refl (hop ! (look-in ! 54 (sub ! 0 refl (whole !))) (stop !))))) (from ! (stop !)) (init ! 20 refl (tt, tt)) $
               assigns ! (agg ! (and-then ! (load ! (from ! (stop !)) (look ! 20 refl)) (and-then ! (load ! (from ! (fld ! refl (stop !))) (look-in ! 54 (sub ! 1 refl (whole !)))) (no-more !)))) (from ! (stop !)) (init ! 18 refl (tt, (tt, (record { fits = p-room .0 }, tt)))) $
               move ! (70 ∷ []) $ use1 W (‵ OwnT ⊛ ‵ OwnT) (shr-slice-copy 𝓤 H A W (named 0) κt u8 .twice xt (st ∷ [])) $ split ! $ move ! (66 ∷ 68 ∷ 0 ∷ 73 ∷ []) $ join ! $ use3 W (raw (Pieces 𝓤 H A mem run .pre to-pieces)) (asks-pieces (are .pieces)) $
