@@ -1,5 +1,5 @@
 //! What the programs share: cases and their stream, the Rust's answer to a case, its listing, its
-//! agreement with the grammar, joined texts, member templates, and the makers of cases.
+//! agreement with the grammar, joined texts, member templates, the season's count, and the makers of cases.
 
 pub mod agreement;
 pub mod answer;
@@ -13,4 +13,5 @@ pub mod members;
 pub mod pairs;
 pub mod ranges;
 pub mod reading;
+pub mod seasons;
 pub mod wants;

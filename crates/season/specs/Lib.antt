@@ -1,0 +1,2 @@
+-- How much the totals grow by one text.
+pub mod Growing

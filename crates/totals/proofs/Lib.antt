@@ -1,0 +1,5 @@
+-- Laws that the proofs of this crate share.
+pub mod Rooms
+pub mod Runs
+pub mod Whole
+pub mod Takings

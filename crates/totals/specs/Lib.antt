@@ -1,0 +1,3 @@
+-- What the functions of the run come to.
+pub mod Adding
+pub mod Taking
