@@ -76,7 +76,7 @@ code4-of : (c : ℕ) → code4 (0xF0 + c / 64 / 64 / 64) (0x80 + c / 64 / 64 % 6
 code4-of c = omega (arith, pair c, pair (c / 64), pair (c / 64 / 64))
 
 -- so the sequence at the bytes of a code, where there is one, is the code's
-code-sequence : (c : ℕ) (s : List ℕ) → (sequenceAt (encode c ++ s) .width ≡ 0 → ⊥) → sequenceAt (encode c ++ s) ≡ seq c (wide c)
+pub code-sequence : (c : ℕ) (s : List ℕ) → (sequenceAt (encode c ++ s) .width ≡ 0 → ⊥) → sequenceAt (encode c ++ s) ≡ seq c (wide c)
 unfolding encode wide sequenceAt
 code-sequence c s =
     let P : List ℕ → Type 0 = λ l. (sequenceAt (l ++ s) .width ≡ 0 → ⊥) → sequenceAt (l ++ s) ≡ seq c (length l) in

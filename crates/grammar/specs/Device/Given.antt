@@ -33,7 +33,7 @@ word-ok c [] w = caseB (eqb c 0x5F) (λ k. absurd (w .named (cc (eqb-true c 0x5F
 word-ok c (d ∷ r) w = refl
 
 -- AFTER A SPEC stands whitespace or the closing brace
-space-begins : (w t : List ℕ) → All Space w → Begins ender (w ++ (0x7D ∷ t))
+pub space-begins : (w t : List ℕ) → All Space w → Begins ender (w ++ (0x7D ∷ t))
 space-begins [] t a = refl
 space-begins (c ∷ w) t a = or-right (eqb c 0x7D) (isSpace c) (a .0)
 
@@ -146,7 +146,7 @@ precision-none undotted u i = i
 precision-none star u i = cc (mark-no-start 0x2E tt)
 precision-none (dot w) u i = cc (mark-no-start 0x2E tt)
 
-precision-dollar : (c : ℕ) → precisionFirst c ≡ true → eqb c 0x24 ≡ false
+pub precision-dollar : (c : ℕ) → precisionFirst c ≡ true → eqb c 0x24 ≡ false
 precision-dollar c h = differs precisionFirst c 0x24 h (cc (mark-no-start 0x24 tt, mark-no-space 0x24 tt))
 
 width-given : (w : Width) (u : List ℕ) → FitsWidth w → Begins precisionFirst u → widthOf u ≡ got implied u true →
@@ -165,7 +165,7 @@ width-given (byName c r) u f e i =
     let s : isContinue 0x24 ≡ false = mark-no-continue 0x24 tt in
     cc (start-digit c (f .first), f .first, take-run isContinue r (0x24 ∷ u) (f .others) s, drop-run isContinue r (0x24 ∷ u) (f .others) s, word-ok c r f)
 
-width-begins : (w : Width) (u : List ℕ) → FitsWidth w → Begins precisionFirst u → Begins widthFirst (writtenWidth w u)
+pub width-begins : (w : Width) (u : List ℕ) → FitsWidth w → Begins precisionFirst u → Begins widthFirst (writtenWidth w u)
 width-begins implied [] f e = absurd e
 width-begins implied (c ∷ u) f e = or-right (isDigit c) (precisionFirst c) e
 width-begins (fixed d ds) u f e = or-left (isDigit d) (precisionFirst d) (of-digit d (f .first))
@@ -183,7 +183,7 @@ dot-given (c ∷ v) e = cc (width-mark 0x2A tt refl refl refl refl c e)
 kind-precision : (u : List ℕ) → Begins kindFirst u → Begins precisionFirst u
 kind-precision u e = begins-map kindFirst precisionFirst (λ c h. or-right (eqb c 0x2E) (kindFirst c) h) u e
 
-precision-begins : (p : Precision) (u : List ℕ) → Begins kindFirst u → Begins precisionFirst (writtenPrecision p u)
+pub precision-begins : (p : Precision) (u : List ℕ) → Begins kindFirst u → Begins precisionFirst (writtenPrecision p u)
 precision-begins undotted u e = kind-precision u e
 precision-begins star u e = refl
 precision-begins (dot w) u e = refl

@@ -18,12 +18,12 @@ well-append none w = w
 well-append {r = r} (more {q} {r = s} x v) w = subst WellFormed (sym (append-assoc q s r)) (more x (well-append v w))
 
 -- THE BYTES OF CODES, joined
-utf8-append : (cs ds : List ℕ) → utf8 (cs ++ ds) ≡ utf8 cs ++ utf8 ds
+pub utf8-append : (cs ds : List ℕ) → utf8 (cs ++ ds) ≡ utf8 cs ++ utf8 ds
 unfolding utf8
 utf8-append [] ds = refl
 utf8-append (c ∷ cs) ds = ap (λ l. encode c ++ l) (utf8-append cs ds) ∙ sym (append-assoc (encode c) (utf8 cs) (utf8 ds))
 
-all-split : (es : List Element) → Splits (writtenAll es)
+pub all-split : (es : List Element) → Splits (writtenAll es)
 all-split [] = λ t. refl
 all-split (e ∷ es) = both (split e) (all-split es)
 

@@ -33,7 +33,7 @@ unfolding size
 end-size p [] = omega arith
 end-size p (e ∷ es) = omega (arith, end-size (endOf p e) es, size-split (split e) (writtenAll es []))
 
-utf8-length : (cs : List ℕ) → length (utf8 cs) ≡ size cs
+pub utf8-length : (cs : List ℕ) → length (utf8 cs) ≡ size cs
 unfolding utf8 size wide
 utf8-length [] = refl
 utf8-length (c ∷ cs) = omega (arith, length-append (encode c) (utf8 cs), utf8-length cs)

@@ -1,0 +1,1 @@
+// One way to write a template: definitions and theorems, in specs/. No code.

@@ -1,0 +1,20 @@
+-- `scribe::parts::put_flag` meets its contract, by whether it stands.
+use Rattle.pen.specs.PenLaws.{laid-none}
+use borrow.Author.Needs.{needs}
+use Rattle.scribe.proofs.parts.put_flag.Statement.{statement}
+use Rattle.scribe.proofs.parts.put_flag.Tie as tie
+
+put-byte-requires : tie.Need-put-byte-requires
+put-byte-requires c κs = rw (c .before .if1 .taken) at (c .before .before .before .pre)
+
+same-length : tie.Need-same-length
+same-length c = search needs
+
+returns : tie.Need-returns
+returns c = rw (c .before .before .before .before .if1 .taken) (c .before .before .put-byte .ensures)
+
+returns-2 : tie.Need-returns-2
+returns-2 c = rw (c .if1 .left) (laid-none _ _)
+
+pub put-flag-spec : {M : Type 1} → statement M
+put-flag-spec = tie.close (tie.spec put-byte-requires same-length returns returns-2)
