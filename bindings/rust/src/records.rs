@@ -88,7 +88,7 @@ pub struct ParseError {
     pub secondary: Option<Range<usize>>,
     pub quoted: Option<Range<usize>>,
     pub suggestion: Option<Range<usize>>,
-    /// How many pieces were listed when it was recorded: the number, from 0, of the placeholder in which it was found.
+    /// How many pieces were listed when it was recorded: the number, from 0, of the placeholder in which it was found; of kind 1 the number of all pieces.
     pub piece: usize,
 }
 

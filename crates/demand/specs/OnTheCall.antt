@@ -104,12 +104,12 @@ same-for-any-frame {t} {s} {s₂} {q} {q₂} x z y w e =
 -- and they want as many arguments
 pub same-arguments : {t s s₂ : List ℕ} {q q₂ : Request} {r r₂ : Answer} {ps ps′ ps₂ ps₂′ : List Piece} {es es′ es₂ es₂′ : List ErrorRecord}
     {ls ls′ ls₂ ls₂′ ns ns′ ns₂ ns₂′ : List ℕ} →
-    Read t s q ps ps′ es es′ ls ls′ ns ns′ r → r .number ≡ 0 → Read t s₂ q₂ ps₂ ps₂′ es₂ es₂′ ls₂ ls₂′ ns₂ ns₂′ r₂ → r₂ .number ≡ 0 → q .mode ≡ q₂ .mode →
+    Read t s q ps ps′ es es′ ls ls′ ns ns′ r → r .number ≡ 0 → Read t s₂ q₂ ps₂ ps₂′ es₂ es₂′ ls₂ ls₂′ ns₂ ns₂′ r₂ → r₂ .number ≡ 0 → q₂ .mode ≡ q .mode →
     r .arguments ≡ r₂ .arguments
 same-arguments {t} {s} {s₂} {q} {q₂} x z y w e =
     let f : Frame = frameFor t s q in
     let g : Frame = frameFor t s₂ q₂ in
     let m : Mode = modeFor q in
-    let n : modeFor q₂ ≡ m = ap modeOf (sym e) in
+    let n : modeFor q₂ ≡ m = ap modeOf e in
     let there : wants (pieces t g m) ≡ wants (pieces t g (modeFor q₂)) = rw n in
     arguments-are x z ∙ wants-spanless (pieces t f m) ∙ ap wants (D.same-pieces t f g m) ∙ sym (wants-spanless (pieces t g m)) ∙ there ∙ sym (arguments-are y w)

@@ -1,10 +1,11 @@
 -- What lists of numbers have room for, and what they hold at exit. Rests on Calls, Parts, and the laws of answer and reading.
 use Prim.Native.Nat.{ℕ, _*_, _≤_}
 use mathlib.Core.Path.{_≡_, refl, sym, ap, _∙_}
-use mathlib.Core.Bool.{Bool, true, false, not}
+use mathlib.Core.Bool.{Bool, true, false}
 use mathlib.Core.List.{List, [], _∷_}
 use native.Mathlib.Omega.{arith}
 use borrow.Author.Tests.{eq-eqb, ne-eqb, le-ltb}
+use lib.Dec.{eqb}
 use lib.ListN.{length, set}
 use lib.Seq.{sets-eq}
 use Rattle.utf8.specs.Choice.{pick}

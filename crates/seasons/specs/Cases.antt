@@ -1,9 +1,8 @@
 -- Worked counts, each computed from the definitions: texts with and without errors, every kind, stars, a refused text, sums, and the bytes of
 -- lists. Rests on Totals and Season and on the reader's definitions, on no law.
-use mathlib.Core.Path.{_≡_, refl, sym, ap, _∙_}
-use mathlib.Core.Bool.{Bool, true, false}
+use mathlib.Core.Path.{_≡_, refl, ap}
 use mathlib.Core.List.{List, [], _∷_, _++_, map}
-use Prim.Native.Nat.{ℕ, zero, suc, _+_, _≤_}
+use Prim.Native.Nat.{ℕ, _+_}
 use Prim.Native.String.{String}
 use native.Mathlib.Omega.{arith}
 use lib.ListN.{length, replicate}

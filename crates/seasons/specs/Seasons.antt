@@ -1,29 +1,27 @@
 -- THE PAGE OF THE SEASON'S COUNT: a list is read one way only, so bytes come to one thing; the totals are the sums, line by line; and of the
 -- refusals of a reading none but 4 arises. The words' definitions are Totals and Season; the work is in SeasonLaws and TotalLaws.
 use mathlib.Core.Path.{_≡_, refl, sym, ap, _∙_}
-use mathlib.Core.Logic.{_⊎_, inl, inr}
+use mathlib.Core.Logic.{inl, inr}
 use mathlib.Core.Bool.{Bool, true, false}
 use mathlib.Core.List.{List, [], _∷_}
-use Prim.Native.Nat.{ℕ, zero, suc, _+_, _≤_, _<_}
+use Prim.Native.Nat.{ℕ, _+_, _≤_, _<_}
 use native.Mathlib.Omega.{arith}
 use borrow.Author.Tests.{le-ltb}
-use lib.Dec.{ltb}
 use lib.ListN.{length, getD, drop}
 use Rattle.utf8.specs.Choice.{pick}
 use Rattle.utf8.specs.Utf8.{validPrefix}
 use Rattle.frame.specs.Frames.{frameOf, isLiteral}
-use Rattle.frame.specs.declared.Mode.{Mode}
 use Rattle.reading.specs.Lists.{pieces, errors, places, lines, countsOf}
-use Rattle.reading.specs.Answers.{isLong, isBroken, lacksNewline, modeOf, frameFor, modeFor, answerOf}
+use Rattle.reading.specs.Answers.{isLong, isBroken, lacksNewline, frameFor, modeFor, answerOf}
 use Rattle.reading.specs.declared.Answer.{Answer}
 use Rattle.reading.specs.declared.Rooms.{Rooms}
 use Rattle.laws.specs.Deciding.{refusedAs, roomFor, countedAnswer, answer-decided}
 use Rattle.laws.specs.ListLaws.{no-places, no-lines}
 use Rattle.laws.specs.RoomLaws.{few-pieces, few-errors}
-use Rattle.seasons.specs.Totals.{countedIn, times, own, plain, zeros, sums}
+use Rattle.seasons.specs.Totals.{countedIn, times, own, plain, sums}
 use Rattle.seasons.specs.TotalLaws.{tallied-line, plus-line, own-length, sums-length, sums-few}
-use Rattle.seasons.specs.Season.{twoBytes, IsList, Summed, Unlisted, Counted}
-use Rattle.seasons.specs.SeasonLaws.{two-one, only-rest, list-rest, Rest}
+use Rattle.seasons.specs.Season.{IsList, Counted}
+use Rattle.seasons.specs.SeasonLaws.{two-one, only-rest, list-rest}
 use Rattle.seasons.specs.declared.Season.{Season}
 
 -- A LIST IS READ ONE WAY ONLY

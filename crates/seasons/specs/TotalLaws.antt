@@ -1,12 +1,11 @@
 -- Laws of totals: what a line has after some lines more, that the order of lines does not matter, and the sums as one count. Rests on Totals.
 use mathlib.Core.Path.{_≡_, refl, sym, ap, _∙_}
-use mathlib.Core.Bool.{Bool, true, false}
 use mathlib.Core.List.{List, [], _∷_, _++_}
 use Prim.Native.Nat.{ℕ, zero, suc, _+_, _*_, _≤_, _<_}
 use native.Mathlib.Omega.{arith}
 use borrow.Author.Tests.{eq-eqb, ne-eqb}
 use lib.Dec.{eqb}
-use lib.ListN.{length, getD, set, length-append, length-replicate, replicate}
+use lib.ListN.{length, getD, set, length-append, replicate}
 use Rattle.utf8.specs.Choice.{pick}
 use Rattle.utf8.specs.ChoiceLaws.{pick-elim}
 use Rattle.reading.specs.Lists.{gather}
@@ -146,7 +145,7 @@ plus-line (x ∷ xs) (y ∷ ys) zero h = refl
 plus-line (x ∷ xs) (y ∷ ys) (suc i) h = plus-line xs ys i (omega (arith, h))
 
 -- NO TOTAL IS LARGE: a piece counts in two lines at most, an error in one, and there are no more of either than bytes
-star-few : (c : Count) → length (starLines c) ≤ 1
+pub star-few : (c : Count) → length (starLines c) ≤ 1
 star-few Count.Implied = omega arith
 star-few (Count.Fixed n) = omega arith
 star-few (Count.ByName r s) = omega arith

@@ -1,5 +1,5 @@
 -- THE TOTALS of a text and of many: for each line of the report, how often a text counts in it. Rests on the pieces and the errors of a reading.
-use mathlib.Core.Bool.{Bool, true, false}
+use mathlib.Core.Bool.{false}
 use mathlib.Core.List.{List, [], _∷_, _++_}
 use Prim.Native.Nat.{ℕ, zero, suc, _+_}
 use lib.Dec.{eqb}

@@ -1,18 +1,17 @@
 -- A run over the steps, a step at a time. Rests on Adding and on the laws of the steps.
 use mathlib.Core.Path.{_≡_, refl, sym, ap, _∙_}
 use mathlib.Core.Bool.{Bool, true, false}
-use mathlib.Core.List.{List, [], _∷_, _++_, append-assoc, append-nil}
-use Prim.Native.Nat.{ℕ, zero, suc, _+_, _-_, _*_, _≤_, _<_}
+use mathlib.Core.List.{List, [], _∷_, _++_, append-nil}
+use Prim.Native.Nat.{ℕ, suc, _+_, _-_, _*_, _≤_, _<_}
 use native.Mathlib.Omega.{arith}
 use borrow.Author.Tests.{eqb-true, eqb-false}
 use lib.Dec.{eqb}
 use lib.Arith.{lt-of-le-ne}
 use lib.ListN.{length, length-append, drop, getD, drop-of-length-le}
 use Rattle.utf8.specs.Choice.{both}
-use Rattle.utf8.specs.ChoiceLaws.{pick-elim, both-false}
+use Rattle.utf8.specs.ChoiceLaws.{pick-elim}
 use Rattle.frame.specs.declared.Frame.{Frame}
 use Rattle.frame.specs.declared.Mode.{Mode}
-use Rattle.scan.specs.declared.Count.{Count}
 use Rattle.closing.specs.declared.whole.PlaceholderRead.{PlaceholderRead}
 use Rattle.reading.specs.Steps.{stepAt, onward, stepsFrom, start, reading}
 use Rattle.reading.specs.Faults.{isClean, stepSlots, wrong, faultsOf}
@@ -25,13 +24,13 @@ use Rattle.reading.specs.declared.Piece.{Piece}
 use Rattle.reading.specs.declared.State.{State}
 use Rattle.reading.specs.declared.Step.{Step}
 use Rattle.laws.specs.FaultLaws.{wrong-slot, slots-few}
-use Rattle.laws.specs.ListLaws.{gather-more, gather-one, gather-append}
+use Rattle.laws.specs.ListLaws.{gather-more, gather-one}
 use Rattle.laws.specs.RecordLaws.{kindOf, record-parts}
 use Rattle.laws.specs.StepLaws.{steps-none}
 use Rattle.laws.specs.WalkLaws.{Kept, kept-start, kept-on, steps-on, steps-over}
 use Rattle.faults.specs.Slots.{FirstWrong}
-use Rattle.seasons.specs.Totals.{kind, placeLine, starLines, pieceLines}
-use Rattle.seasons.specs.TotalLaws.{added, added-none, added-append, added-length}
+use Rattle.seasons.specs.Totals.{placeLine, starLines, pieceLines}
+use Rattle.seasons.specs.TotalLaws.{star-few, added, added-none, added-append, added-length}
 use Rattle.totals.specs.Adding.{Room, faultLines, stepLines, isNone}
 use Rattle.totals.proofs.Rooms.{room-fewer, room-added}
 
@@ -77,13 +76,6 @@ placeholder-counted p row {a} {b} {line} e f g =
     g ∙ rw (f, e, append-nil) (added-append 0 row (placeLine (p .argument .place) ∷ []) stars)
 
 -- how many lines a step has, at most
-star-few : (c : Count) → length (starLines c) ≤ 1
-star-few Count.Implied = omega arith
-star-few (Count.Fixed n) = omega arith
-star-few (Count.ByName r s) = omega arith
-star-few (Count.ByArgument i) = omega arith
-star-few (Count.ByStar i) = omega arith
-
 pub piece-few : (x : Step) → length (gather pieceLines (piecesOf x)) ≤ 2
 unfolding gather
 piece-few Step.End = omega arith

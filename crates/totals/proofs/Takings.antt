@@ -1,22 +1,22 @@
 -- Taking a list apart, a text at a time. Rests on Taking and on seasons' laws of lists.
 use mathlib.Core.Path.{_≡_, refl, sym, ap, subst, _∙_}
-use mathlib.Core.Logic.{_⊎_, inl, inr}
+use mathlib.Core.Logic.{inl, inr}
 use mathlib.Core.Bool.{Bool, true, false, true≢false}
 use mathlib.Core.List.{List, [], _∷_, _++_, append-assoc, append-nil}
-use Prim.Native.Nat.{ℕ, zero, suc, _+_, _-_, _*_, _/_, _%_, _≤_, _<_}
+use Prim.Native.Nat.{ℕ, suc, _+_, _-_, _*_, _/_, _%_, _≤_, _<_}
 use native.Mathlib.Numerals.{add-one}
 use native.Mathlib.Omega.{arith}
 use lib.ListN.{length, getD, take, drop, length-drop}
 use lib.Dec.{eqb}
 use lib.Seq.{drop-cons, drop-drop, length-take-le, drop-length}
 use borrow.Author.Tests.{eqb-true, eqb-false}
-use Rattle.seasons.specs.Season.{twoBytes, IsList, Summed, Unlisted, Counted}
+use Rattle.seasons.specs.Season.{twoBytes, IsList, Counted}
 use Rattle.seasons.specs.SeasonLaws.{two-one, Rest, rest-none, none-rest, rest-first, first-rest, list-rest, rest-list}
 use Rattle.seasons.specs.TotalLaws.{plus-line, own-length, sums-length, own-few, sums-few, sums-snoc}
 use Rattle.seasons.specs.Totals.{own, plus, zeros, sums}
 use Rattle.seasons.specs.declared.Season.{Season}
 use Rattle.totals.specs.Adding.{Room}
-use Rattle.totals.specs.Taking.{Stands, NoneStands, Ends, AllAdded}
+use Rattle.totals.specs.Taking.{Stands, Ends, AllAdded}
 
 -- two bytes and their number
 pub two-said : (low high : ℕ) → low < 256 → high < 256 → (low + 256 * high ≤ 65535) × (twoBytes (low + 256 * high) ≡ low ∷ high ∷ [])

@@ -1,11 +1,8 @@
 -- `totals::add_all` meets its contract: the invariant (`Taken`) says which texts are passed, that their totals are at hand, and that the list begins with them whatever it is. The measure is `left`.
-use borrow.Author.Needs.{needs}
 use mathlib.Core.Path.{_≡_, sym, _∙_}
 use Prim.Native.Nat.{_*_}
 use native.Mathlib.Omega.{arith}
-use denote.Ref.{now}
 use lib.ListN.{length}
-use Rattle.seasons.specs.TotalLaws.{sums-length}
 use Rattle.totals.proofs.Rooms.{room-fewer}
 use Rattle.totals.proofs.Takings.{Taken, taken-start, taken-rows, taken-end, taken-none, taken-stands, here-few, taken-next}
 use Rattle.totals.proofs.add_all.Statement.{statement}

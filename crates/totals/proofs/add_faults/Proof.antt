@@ -1,6 +1,5 @@
 -- `totals::add_faults` meets its contract. The invariant (`Slotted`): with what the slots from k on have, the totals are as they are to be. The measure is
 -- how many slots are left.
-use borrow.Author.Needs.{needs}
 use Prim.Native.Nat.{_-_}
 use native.Mathlib.Omega.{arith}
 use denote.Ref.{now}

@@ -1,6 +1,6 @@
 -- `totals::add_steps` meets its contract: the invariant (`Walk`) says that with what the steps left count the totals are as they are to be. The measure is `left`.
 use borrow.Author.Needs.{needs}
-use mathlib.Core.Path.{refl, sym, _∙_}
+use mathlib.Core.Path.{sym, _∙_}
 use Prim.Native.Nat.{_+_, _*_}
 use native.Mathlib.Omega.{arith}
 use Rattle.laws.specs.WantLaws.{few-step}
