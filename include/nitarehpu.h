@@ -150,7 +150,7 @@ uint8_t nitarehpu_read(const uint8_t *text, size_t text_length, const uint8_t *s
                        size_t errors_length, size_t *places, size_t places_length, size_t *lines, size_t lines_length, size_t *answer,
                        size_t answer_length);
 
-/* Says how many records each list of the same call would need, with the same refusals 1 to 5 and 255. One reading, which only counts. */
+/* Says how many records each list of the same call would need, and how many arguments its pieces want, with the same refusals 1 to 5 and 255. One reading, which only counts. */
 uint8_t nitarehpu_count(const uint8_t *text, size_t text_length, const uint8_t *snippet, size_t snippet_length, uint8_t mode, uint8_t style,
                         size_t hashes, uint8_t given, uint8_t newline, size_t *answer, size_t answer_length);
 
