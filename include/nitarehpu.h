@@ -40,7 +40,8 @@ enum {
 
 /* The answer's seven numbers: which of the above, the place (of 4, else 0), how many records each list needs (for 0 and 6 to 9, else 0), and how many
  * arguments the pieces want (for 0, else 0): one more than the largest argument number in any piece's place, width, precision or star, 0 if none has a
- * number. A number that is over range adds nothing. */
+ * number. A number that is over range adds nothing, nor does a field
+ * met where a closing brace is missing. */
 enum { NITAREHPU_ANSWER_NUMBERS = 7 };
 
 /* Numbers of a record: a piece's 40 and an error's 16 are laid out as the structs below; a span of the snippet is 2: start, end. */

@@ -33,7 +33,8 @@ pub struct Parsed {
     pub errors: Vec<ParseError>,
     pub arg_places: Vec<Range<usize>>,
     pub line_spans: Vec<Range<usize>>,
-    /// How many arguments the pieces want: one more than the largest argument number in any place, width, precision or star, 0 if there is none.
+    /// How many arguments the pieces want: one more than the largest argument number in any place, width, precision or star, 0 if there is none. A number
+    /// that is over range adds nothing, nor does a field met where a closing brace is missing.
     pub arguments: usize,
 }
 
