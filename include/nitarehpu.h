@@ -5,7 +5,7 @@
  *
  * What the caller sees to, and nothing checks:
  *   - each pointer leads to as many readable (the lists: also writable) elements as the length after it says; with length 0 it may be null;
- *   - no list overlaps another list, the text or the snippet; the text and the snippet may be the same bytes;
+ *   - no list, nor an output, overlaps another list, the text or the snippet; the text and the snippet may be the same bytes;
  *   - pieces and errors are aligned for uint32_t; places, lines and answer for size_t.
  * Every other argument gets a defined answer. The library is for x86-64 Linux.
  */
@@ -34,8 +34,10 @@ enum {
     NITAREHPU_ERRORS = 7,      /* the list of errors is */
     NITAREHPU_PLACES = 8,      /* the list of argument places is */
     NITAREHPU_LINES = 9,       /* the list of line spans is */
+    NITAREHPU_FAULTY = 10,     /* nitarehpu_plain alone, after 1, 3 and 4: the text has errors */
+    NITAREHPU_OUTPUT = 11,     /* nitarehpu_plain alone, last: the output is too short; the answer says how many bytes are needed */
     NITAREHPU_NOT_FORMAT = 17, /* nitarehpu_member alone, after 1: the mode is 1 or 2 */
-    NITAREHPU_NO_ANSWER = 255  /* the answer's list has no room for its seven numbers (nitarehpu_member: four): nothing was read, and nothing is written */
+    NITAREHPU_NO_ANSWER = 255  /* the answer's list has no room for its seven numbers (nitarehpu_member and nitarehpu_plain: four): nothing was read, and nothing is written */
 };
 
 /* The answer's seven numbers: which of the above, the place (of 4, else 0), how many records each list needs (for 0 and 6 to 9, else 0), and how many
@@ -172,6 +174,19 @@ enum { NITAREHPU_VERDICT_NUMBERS = 4 };
  * numbers. Returns the first of them: refusals 1, 17, 2 to 5 and 255. One reading, which keeps no record and ends at the first error. */
 uint8_t nitarehpu_member(const uint8_t *text, size_t text_length, const uint8_t *snippet, size_t snippet_length, uint8_t mode, uint8_t style,
                          size_t hashes, uint8_t given, uint8_t newline, size_t *answer, size_t answer_length);
+
+/* The four numbers of nitarehpu_plain's answer: a refusal's number, or 0; its place (of 4, else 0); how many bytes the plain form has (for 0 and 11, else 0); how
+ * many arguments its pieces want (for 0, else 0), which are as many as the text's. */
+enum { NITAREHPU_PLAIN_NUMBERS = 4 };
+
+/* Writes the plain form of a text without errors: one way to write all texts that say the same. No optional whitespace, no leading zeros, no `.` without a
+ * precision, no colon without a spec; docs/RULES.md, section 15, has it in full. The text is read with no style and no snippet, which change nothing of it.
+ *   output      gets the plain form over its first bytes, and the rest stays as it was; with as many bytes as the text has it is always long enough
+ *   answer      gets the four numbers
+ * Returns the first of them: refusals 1, 3, 4, 10, 11 and 255, each of which leaves the output as it was. Two texts of one mode say the same exactly where their
+ * plain forms are the same bytes. Two readings, and one more that only measures where the output is shorter than the text. */
+uint8_t nitarehpu_plain(const uint8_t *text, size_t text_length, uint8_t mode, uint8_t *output, size_t output_length, size_t *answer,
+                        size_t answer_length);
 
 #ifdef __cplusplus
 }

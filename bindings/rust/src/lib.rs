@@ -145,6 +145,60 @@ pub fn member(text: &str) -> Result<Verdict, Refused> {
     }
 }
 
+/// A text's plain form.
+#[derive(Clone, Debug, PartialEq, Eq)]
+pub struct PlainForm {
+    pub text: String,
+    /// How many arguments its pieces want: as many as those of the text it was made of.
+    pub arguments: usize,
+}
+
+/// Why a text has no plain form.
+#[derive(Clone, Copy, Debug, PartialEq, Eq)]
+pub enum NotPlain {
+    /// The text is over 65,535 bytes.
+    Long,
+    /// The text is not read without error.
+    Errors,
+}
+
+impl std::fmt::Display for NotPlain {
+    fn fmt(&self, f: &mut std::fmt::Formatter<'_>) -> std::fmt::Result {
+        f.write_str(match self {
+            NotPlain::Long => "the text is longer than 65,535 bytes",
+            NotPlain::Errors => "the text has errors",
+        })
+    }
+}
+
+impl std::error::Error for NotPlain {}
+
+/// The plain form of a text without errors: one way to write all texts that say the same, so that two texts of one mode say the same exactly where their plain
+/// forms are equal.
+///
+/// ```
+/// use nitarehpu::{ParseMode::Format, plain_form};
+/// let plain = plain_form("{007 :>08.02 }", Format)?;
+/// assert_eq!(plain.text, "{7:>08.2}");
+/// assert_eq!(plain.arguments, 8);
+/// # Ok::<(), nitarehpu::NotPlain>(())
+/// ```
+pub fn plain_form(text: &str, mode: ParseMode) -> Result<PlainForm, NotPlain> {
+    // A plain form is no longer than its text, so that the output is never too short.
+    let mut output = vec![0; text.len()];
+    let told = raw::plain(text.as_bytes(), mode as u8, &mut output);
+    match told.number {
+        0 => {
+            output.truncate(told.bytes);
+            let text = String::from_utf8(output).expect("a plain form is UTF-8");
+            Ok(PlainForm { text, arguments: told.arguments })
+        }
+        3 => Err(NotPlain::Long),
+        10 => Err(NotPlain::Errors),
+        other => unreachable!("a string with a mode and an output of its length is not refused with {other}"),
+    }
+}
+
 /// Whether a call is done. Its text is UTF-8, its mode is one, and its lists, the answer's too, have room, so the other refusals do not come.
 fn accepted(answer: raw::Answer) -> Result<(), Refused> {
     match answer.number {

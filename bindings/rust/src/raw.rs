@@ -56,6 +56,16 @@ unsafe extern "C" {
         answer: *mut usize,
         answer_length: usize,
     ) -> u8;
+
+    fn nitarehpu_plain(
+        text: *const u8,
+        text_length: usize,
+        mode: u8,
+        output: *mut u8,
+        output_length: usize,
+        answer: *mut usize,
+        answer_length: usize,
+    ) -> u8;
 }
 
 /// How a text is to be read, in the call's numbers.
@@ -179,4 +189,34 @@ pub fn member(text: &[u8], request: Request<'_>) -> Told {
     }
     let [number, place, rule, piece] = answer;
     Told { number, place, rule, piece }
+}
+
+/// The numbers that a call for a plain form answers.
+#[derive(Clone, Copy, Debug, Default, PartialEq, Eq)]
+pub struct Tidied {
+    pub number: usize,
+    pub place: usize,
+    /// How many bytes the plain form has, where it is written or the output is too short.
+    pub bytes: usize,
+    /// How many arguments its pieces want, where it is written.
+    pub arguments: usize,
+}
+
+/// Writes the plain form of a text over the start of a lent output; a refusal leaves the output as it was.
+pub fn plain(text: &[u8], mode: u8, output: &mut [u8]) -> Tidied {
+    let mut answer = [0; 4];
+    // SAFETY: as above.
+    unsafe {
+        nitarehpu_plain(
+            text.as_ptr(),
+            text.len(),
+            mode,
+            output.as_mut_ptr(),
+            output.len(),
+            answer.as_mut_ptr(),
+            answer.len(),
+        );
+    }
+    let [number, place, bytes, arguments] = answer;
+    Tidied { number, place, bytes, arguments }
 }
