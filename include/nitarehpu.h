@@ -37,14 +37,14 @@ enum {
     NITAREHPU_FAULTY = 10,     /* nitarehpu_plain alone, after 1, 3 and 4: the text has errors */
     NITAREHPU_OUTPUT = 11,     /* nitarehpu_plain alone, last: the output is too short; the answer says how many bytes are needed */
     NITAREHPU_NOT_FORMAT = 17, /* nitarehpu_member alone, after 1: the mode is 1 or 2 */
-    NITAREHPU_NO_ANSWER = 255  /* the answer's list has no room for its seven numbers (nitarehpu_member and nitarehpu_plain: four): nothing was read, and nothing is written */
+    NITAREHPU_NO_ANSWER = 255  /* the answer's list has no room for its eight numbers (nitarehpu_member and nitarehpu_plain: four): nothing was read, and nothing is written */
 };
 
-/* The answer's seven numbers: which of the above, the place (of 4, else 0), how many records each list needs (for 0 and 6 to 9, else 0), and how many
+/* The answer's eight numbers: which of the above, the place (of 4, else 0), how many records each list needs (for 0 and 6 to 9, else 0), how many
  * arguments the pieces want (for 0, else 0): one more than the largest argument number in any piece's place, width, precision or star, 0 if none has a
- * number. A number that is over range adds nothing, nor does a field
- * met where a closing brace is missing. */
-enum { NITAREHPU_ANSWER_NUMBERS = 7 };
+ * number. A number that is over range adds nothing, nor does a field met where a closing brace is missing. And how many characters were passed (for 0,
+ * else 0), those that are read a second time counted again: never more than twice the text's characters. */
+enum { NITAREHPU_ANSWER_NUMBERS = 8 };
 
 /* Numbers of a record: a piece's 40 and an error's 16 are laid out as the structs below; a span of the snippet is 2: start, end. */
 enum { NITAREHPU_PIECE_NUMBERS = 40, NITAREHPU_ERROR_NUMBERS = 16, NITAREHPU_SPAN_NUMBERS = 2 };
@@ -141,7 +141,7 @@ typedef struct nitarehpu_error {
  *   style       0: none; any other: a raw string with `hashes` hashes
  *   newline     not 0: the text's last newline was appended to it
  *   pieces, errors, places, lines: the lists, with their lengths in numbers; a rest that is no whole record is left alone
- *   answer      gets the seven numbers
+ *   answer      gets the eight numbers
  * Returns the first of the answer's numbers. Done fills the first records of each list, and the rest stay as they were.
  *
  * How often the text is read, once it is known to be UTF-8: once into pieces and errors, and once more where a record belongs to the front. A reading that
@@ -153,7 +153,8 @@ uint8_t nitarehpu_read(const uint8_t *text, size_t text_length, const uint8_t *s
                        size_t errors_length, size_t *places, size_t places_length, size_t *lines, size_t lines_length, size_t *answer,
                        size_t answer_length);
 
-/* Says how many records each list of the same call would need, and how many arguments its pieces want, with the same refusals 1 to 5 and 255. One reading, which only counts. */
+/* Says how many records each list of the same call would need, how many arguments its pieces want and how many characters it passes, with the same refusals 1 to 5
+ * and 255. One reading, which only counts. */
 uint8_t nitarehpu_count(const uint8_t *text, size_t text_length, const uint8_t *snippet, size_t snippet_length, uint8_t mode, uint8_t style,
                         size_t hashes, uint8_t given, uint8_t newline, size_t *answer, size_t answer_length);
 

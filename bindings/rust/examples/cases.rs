@@ -116,8 +116,8 @@ fn case(out: &mut impl Write, k: usize, head: &[u8], snippet: &[u8], text: &[u8]
     writeln!(out, "case {k}")?;
     writeln!(
         out,
-        "answer {} {} {} {} {} {} arguments {}",
-        answer.number, answer.place, answer.pieces, answer.errors, answer.places, answer.lines, answer.arguments
+        "answer {} {} {} {} {} {} arguments {} moves {}",
+        answer.number, answer.place, answer.pieces, answer.errors, answer.places, answer.lines, answer.arguments, answer.moves
     )?;
     if answer.number != 0 {
         return if store.is_zero() { Ok(()) } else { writeln!(out, "changed") };

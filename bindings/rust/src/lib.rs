@@ -36,6 +36,8 @@ pub struct Parsed {
     /// How many arguments the pieces want: one more than the largest argument number in any place, width, precision or star, 0 if there is none. A number
     /// that is over range adds nothing, nor does a field met where a closing brace is missing.
     pub arguments: usize,
+    /// How many characters were passed, those that were read a second time counted again: never more than twice the text's characters.
+    pub moves: usize,
 }
 
 /// Why a text is not read.
@@ -219,5 +221,6 @@ fn parsed(text: &str, answer: raw::Answer, lists: &raw::Lists<'_>) -> Parsed {
         arg_places: lists.places[..2 * answer.places].chunks_exact(2).map(range).collect(),
         line_spans: lists.lines[..2 * answer.lines].chunks_exact(2).map(range).collect(),
         arguments: answer.arguments,
+        moves: answer.moves,
     }
 }

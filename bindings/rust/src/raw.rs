@@ -89,7 +89,12 @@ pub struct Answer {
     pub lines: usize,
     /// How many arguments the pieces want, of a call that is done.
     pub arguments: usize,
+    /// How many characters were passed, of a call that is done.
+    pub moves: usize,
 }
+
+/// How many numbers an answer has.
+const ANSWER: usize = 8;
 
 /// The lent lists.
 pub struct Lists<'a> {
@@ -99,14 +104,14 @@ pub struct Lists<'a> {
     pub lines: &'a mut [usize],
 }
 
-fn answered([number, place, pieces, errors, places, lines, arguments]: [usize; 7]) -> Answer {
-    Answer { number, place, pieces, errors, places, lines, arguments }
+fn answered([number, place, pieces, errors, places, lines, arguments, moves]: [usize; ANSWER]) -> Answer {
+    Answer { number, place, pieces, errors, places, lines, arguments, moves }
 }
 
 /// Reads a text into lent lists.
 pub fn read(text: &[u8], request: Request<'_>, lists: &mut Lists<'_>) -> Answer {
     let snippet = request.snippet.unwrap_or_default();
-    let mut answer = [0; 7];
+    let mut answer = [0; ANSWER];
     // SAFETY: each pointer goes with its slice's length, and Rust's rules keep the slices that are written apart from all others.
     unsafe {
         nitarehpu_read(
@@ -137,7 +142,7 @@ pub fn read(text: &[u8], request: Request<'_>, lists: &mut Lists<'_>) -> Answer 
 /// How many records each list of a reading needs.
 pub fn count(text: &[u8], request: Request<'_>) -> Answer {
     let snippet = request.snippet.unwrap_or_default();
-    let mut answer = [0; 7];
+    let mut answer = [0; ANSWER];
     // SAFETY: as above.
     unsafe {
         nitarehpu_count(

@@ -49,9 +49,9 @@ const FORMAT: Request<'_> = Request { mode: 0, style: None, snippet: None, newli
 fn an_answer_without_room_is_refused_before_all_else() {
     // The mode is none either, but that is checked later.
     for mode in [0, 3] {
-        for room in 0..7 {
+        for room in 0..8 {
             let text = b"{}";
-            let (mut pieces, mut errors, mut answer) = ([7; 2 * PIECE], [7; 2 * ERROR], [7; 7]);
+            let (mut pieces, mut errors, mut answer) = ([7; 2 * PIECE], [7; 2 * ERROR], [7; 8]);
             // SAFETY: each pointer goes with a length that its array has; lists of length 0 are not touched.
             let (read, counted) = unsafe {
                 (
@@ -80,7 +80,7 @@ fn an_answer_without_room_is_refused_before_all_else() {
                 )
             };
             assert_eq!((read, counted), (NO_ANSWER, NO_ANSWER));
-            assert_eq!((pieces, errors, answer), ([7; 2 * PIECE], [7; 2 * ERROR], [7; 7]));
+            assert_eq!((pieces, errors, answer), ([7; 2 * PIECE], [7; 2 * ERROR], [7; 8]));
         }
     }
 }

@@ -101,6 +101,12 @@ fn a_text_says_how_many_arguments_it_wants() {
 }
 
 #[test]
+fn a_text_says_how_many_characters_were_passed() {
+    let moves = |text: &str| parse(text, None, None, false, ParseMode::Format).expect("the text is read").moves;
+    assert_eq!(["", "}", "øø", "{:aaa}", "{:aaaa", "{:xaaaa}", "{a.b}", "{a.b:cc}"].map(moves), [0, 1, 2, 9, 10, 13, 5, 10]);
+}
+
+#[test]
 fn a_diagnostic_type_is_any_text() {
     let parsed = parse("{name:any text }", None, None, false, ParseMode::Diagnostic).expect("the text is read");
     assert_eq!(arguments(&parsed)[0].format.ty, "any text ");

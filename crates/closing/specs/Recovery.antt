@@ -46,8 +46,8 @@ cleanFlaws =
       typetext = Flaw.Clean;
     }
 
-abbrev pub recovered : TextPlace → ℕ → Flaw → ArgumentFlaws → Hint → TextRange → Recovery
-recovered at n word field hint text =
+abbrev pub recovered : TextPlace → ℕ → Flaw → ArgumentFlaws → Hint → TextRange → ℕ → Recovery
+recovered at n word field hint text given =
     record {
       at = at;
       next = n;
@@ -55,11 +55,12 @@ recovered at n word field hint text =
       field = field;
       hint = hint;
       text = text;
+      given = given;
     }
 
 -- reading goes on at a place, with no word and no field read
 abbrev pub passedTo : TextPlace → ℕ → Hint → Recovery
-passedTo at n hint = recovered at n Flaw.Clean cleanFlaws hint (rangeOf at at)
+passedTo at n hint = recovered at n Flaw.Clean cleanFlaws hint (rangeOf at at) 0
 
 -- the literal text that a spec's type is: in Diagnostic mode the type, in the others none (R6.10)
 abbrev pub textTaken : Mode → TextRange → TextRange
@@ -70,7 +71,7 @@ textTaken Mode.Diagnostic typetext = typetext
 -- kind 8, with the word after `?:` (K8)
 abbrev pub debugFirst : TextPlace → ℕ → WordRead → Recovery
 debugFirst at n w =
-    recovered (w .word .end) n (w .flaw) cleanFlaws (Hint.DebugFirst at (w .word)) (rangeOf (w .word .end) (w .word .end))
+    recovered (w .word .end) n (w .flaw) cleanFlaws (Hint.DebugFirst at (w .word)) (rangeOf (w .word .end) (w .word .end)) 0
 
 -- "13 field access; 14 tuple index"; a nameless field is passed and nothing is said (K13, K14)
 abbrev pub fieldHint : Place → TextPlace → TextPlace → Hint
@@ -84,6 +85,7 @@ fieldAfter m from field close =
     recovered (close .at) (field .next) Flaw.Clean (field .flaws)
     (pick (close .ate) (fieldHint (field .place) from (field .to)) Hint.Silent)
     (textTaken m (field .spec .typetext))
+    (field .given)
 
 -- after a name: `.` and a field, which is an argument too and takes its numbers (R8.4, R8.5)
 unfoldable pub fieldRead : List ℕ → Frame → Mode → TextPlace → TextPlace → ℕ → Recovery

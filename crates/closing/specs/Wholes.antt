@@ -1,5 +1,5 @@
 -- A placeholder: "`{`, place, whitespace, optionally `:` and a spec, whitespace, `}`", or what stands where its `}` is missing.
-use Prim.Native.Nat.{ℕ}
+use Prim.Native.Nat.{ℕ, _+_}
 use Prim.Native.Char.{code}
 use mathlib.Core.List.{List}
 use Rattle.utf8.specs.Choice.{pick}
@@ -27,8 +27,8 @@ recordOf t f brace a end =
       range = rangeOf brace end;
     }
 
-abbrev pub wholeOf : List ℕ → Frame → Mode → TextPlace → ArgumentRead → Closing → TextPlace → ℕ → PlaceholderRead
-wholeOf t f m brace a closing at n =
+abbrev pub wholeOf : List ℕ → Frame → Mode → TextPlace → ArgumentRead → Closing → TextPlace → ℕ → ℕ → PlaceholderRead
+wholeOf t f m brace a closing at n given =
     record {
       argument = recordOf t f brace a at;
       text = textTaken m (a .spec .typetext);
@@ -36,6 +36,7 @@ wholeOf t f m brace a closing at n =
       closing = closing;
       at = at;
       next = n;
+      given = given;
     }
 
 -- an argument with no closing brace at a place; its fill stands after the colon, and the colon where the place ends (R8.1, R7.8)
@@ -43,7 +44,7 @@ unfoldable pub missingRead : List ℕ → Frame → Mode → TextPlace → Argum
 missingRead t f m brace a at =
     let why = because (a .spec .fill) (pastAt t (a .to)) brace in
     let on = recoverRead t f m (a .from) (isIdentifier (a .place) (a .spec)) at (a .next) in
-    wholeOf t f m brace a (Closing.Missing (gapAt t at why) on) (on .at) (on .next)
+    wholeOf t f m brace a (Closing.Missing (gapAt t at why) on) (on .at) (on .next) (a .given + on .given)
 
 -- the placeholder whose opening brace and whose place stand at two places (R5.15)
 unfoldable pub placeholderRead : List ℕ → Frame → Mode → TextPlace → TextPlace → ℕ → PlaceholderRead
@@ -51,4 +52,4 @@ placeholderRead t f m brace at n =
     let a = argumentRead t f m at n in
     let end = spacesPast t (a .at) in
     let close = consumed t end (code "}") in
-    pick (close .ate) (wholeOf t f m brace a (Closing.Closed end) (close .at) (a .next)) (missingRead t f m brace a end)
+    pick (close .ate) (wholeOf t f m brace a (Closing.Closed end) (close .at) (a .next) (a .given)) (missingRead t f m brace a end)

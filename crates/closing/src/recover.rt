@@ -60,6 +60,8 @@ pub struct Recovery {
     pub hint: Hint,
     // In Diagnostic mode the text after a field's colon.
     pub text: TextRange,
+    // How many characters a field's counts gave back.
+    pub given: usize,
 }
 
 fn and(a: bool, b: bool) -> bool
@@ -244,6 +246,7 @@ fn passed_to(at: TextPlace, next: usize, hint: Hint) -> Recovery
         field,
         hint,
         text: TextRange { start: at, end: at },
+        given: 0,
     }
 }
 
@@ -281,6 +284,7 @@ fn after_question(text: &[u8], at: TextPlace, past: TextPlace, next: usize) -> R
             field,
             hint: Hint::DebugFirst(at, word),
             text: TextRange { start: end, end },
+            given: 0,
         };
     }
     passed_to(past, next, Hint::Silent)
@@ -370,6 +374,7 @@ fn read_field(
             field,
             hint,
             text: taken,
+            given: read.given,
         };
     }
     Recovery {
@@ -379,6 +384,7 @@ fn read_field(
         field,
         hint: Hint::Silent,
         text: taken,
+        given: read.given,
     }
 }
 

@@ -9,7 +9,7 @@ use placeholder::Argument;
 use placeholder::ArgumentFlaws;
 use placeholder::between::ArgumentRead;
 ghost use mathlib.Core.Path.{_≡_};
-ghost use Prim.Native.Nat.{_<_};
+ghost use Prim.Native.Nat.{_<_, _≤_};
 ghost use Rattle.frame.specs.Bounds.{Small};
 ghost use Rattle.closing.specs.Wholes.{recordOf, missingRead, placeholderRead};
 
@@ -27,6 +27,8 @@ pub struct PlaceholderRead {
     pub closing: Closing,
     pub at: TextPlace,
     pub next: usize,
+    // How many characters were read for a count and given back, those of a field met in recovery among them.
+    pub given: usize,
 }
 
 // An argument's record, from its opening brace to where reading stood afterwards.
@@ -62,7 +64,7 @@ fn missing(
     read: ArgumentRead,
     at: TextPlace,
 ) -> PlaceholderRead
-    requires { ⌜ Small (now text) frame × (read .next < 0x100000) ⌝ }
+    requires { ⌜ Small (now text) frame × (read .next < 0x100000) × (read .given ≤ 131070) ⌝ }
     ensures { λ r. ⌜ r ≡ missingRead (now (text .entry)) frame mode brace read at ⌝ }
 {
     let place = read.place;
@@ -87,6 +89,7 @@ fn missing(
         closing: Closing::Missing(gap, on),
         at: end,
         next: on.next,
+        given: read.given + on.given,
     }
 }
 
@@ -120,6 +123,7 @@ pub fn placeholder(
             closing: Closing::Closed(end),
             at: last,
             next: read.next,
+            given: read.given,
         };
     }
     missing(text, frame, mode, brace, read, end)

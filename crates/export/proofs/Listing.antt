@@ -1,5 +1,5 @@
 -- What lists of numbers have room for, and what they hold at exit. Rests on Calls, Parts, and the laws of answer and reading.
-use Prim.Native.Nat.{ℕ, _*_, _≤_}
+use Prim.Native.Nat.{ℕ, zero, suc, _+_, _*_, _≤_}
 use mathlib.Core.Path.{_≡_, refl, sym, ap, _∙_}
 use mathlib.Core.Bool.{Bool, true, false}
 use mathlib.Core.List.{List, [], _∷_}
@@ -14,6 +14,11 @@ use Rattle.frame.specs.declared.Frame.{Frame}
 use Rattle.frame.specs.declared.Mode.{Mode}
 use Rattle.reading.specs.Lists.{pieces, errors, places, lines, countsOf}
 use Rattle.reading.specs.Wants.{wants}
+use Rattle.reading.specs.Moves.{moves}
+use Rattle.reading.specs.Steps.{stepAt, onward, follow, stepsFrom, start, reading}
+use Rattle.reading.specs.declared.Onward.{Onward}
+use Rattle.reading.specs.declared.State.{State}
+use Rattle.laws.specs.MoveLaws.{given, givenIn, givenBy, stopOf, movesTold, moves-told, step-given}
 use Rattle.laws.specs.ListLaws.{no-places, no-lines}
 use Rattle.laws.specs.RoomLaws.{few-pieces, few-errors}
 use Rattle.reading.specs.declared.Counts.{Counts}
@@ -30,12 +35,12 @@ use Rattle.fills.specs.declared.run.Filled.{Filled as Found}
 use Rattle.words.specs.Calls.{roomsIn, answerWords}
 use Rattle.export.specs.Parts.{Roomy, Ample, Filled, ReadBy}
 
--- an answer's seven numbers, set one after the other
-pub seven : (l : List ℕ) (a : Answer) → 7 ≤ length l →
-    set (set (set (set (set (set (set l 0 (a .number)) 1 (a .place)) 2 (a .counts .pieces)) 3 (a .counts .errors)) 4 (a .counts .places)) 5 (a .counts .lines)) 6 (a .arguments) ≡
+-- an answer's eight numbers, set one after the other
+pub eight : (l : List ℕ) (a : Answer) → 8 ≤ length l →
+    set (set (set (set (set (set (set (set l 0 (a .number)) 1 (a .place)) 2 (a .counts .pieces)) 3 (a .counts .errors)) 4 (a .counts .places)) 5 (a .counts .lines)) 6 (a .arguments)) 7 (a .moves) ≡
     over (answerWords a) l
 unfolding over answerWords
-seven l a h = sets-eq (a .number ∷ a .place ∷ a .counts .pieces ∷ a .counts .errors ∷ a .counts .places ∷ a .counts .lines ∷ a .arguments ∷ []) l 0 h
+eight l a h = sets-eq (a .number ∷ a .place ∷ a .counts .pieces ∷ a .counts .errors ∷ a .counts .places ∷ a .counts .lines ∷ a .arguments ∷ a .moves ∷ []) l 0 h
 
 -- a list at exit, where the number is 0 and where it is not
 module _ (n : ℕ) (new old : List ℕ) where
@@ -47,7 +52,7 @@ module _ (n : ℕ) (new old : List ℕ) where
   unfolding atExit pick
   at-refused some = rw (ne-eqb n 0 some)
 
--- how many arguments are said, where the number is 0 and where it is not
+-- a figure as it is said, where the number is 0 and where it is not
 said : (w : ℕ) {n : ℕ} → n ≡ 0 → w ≡ pick (eqb n 0) w 0
 unfolding pick
 said w {n} z = rw (eq-eqb n 0 z)
@@ -81,11 +86,26 @@ module _ (t : List ℕ) (f : Frame) (m : Mode) where
     ample-room x = (x .small, omega (arith, few-pieces t f m, x .pieces), omega (arith, few-errors t f m, x .errors))
 
     -- and what is no source literal is filled with that
-    pub filled-is : {ps′ es′ : List ℕ} {r : Found} → f .literal ≡ false → Fills t f m ps ps′ es es′ r →
-        Filled t f m ps ps′ es es′ (answered 0 0 (record { pieces = r .pieces; errors = r .errors; places = 0; lines = 0 }) (r .arguments))
+    pub filled-is : {ps′ es′ : List ℕ} {r : Found} {v : ℕ} → f .literal ≡ false → Fills t f m ps ps′ es es′ r → v ≡ movesTold t (r .stop) (r .given) →
+        Filled t f m ps ps′ es es′ (answered 0 0 (record { pieces = r .pieces; errors = r .errors; places = 0; lines = 0 }) (r .arguments) v)
     unfolding countsOf
-    filled-is e x =
-        record { answer = rw (x .pieces, x .errors, x .arguments, no-places t f m e, no-lines t f m e); pieces = x .wrote-pieces; errors = x .wrote-errors }
+    filled-is {r = r} {v = v} e x w =
+        let same : v ≡ moves t f m = w ∙ ap (λ (k : ℕ). movesTold t k (r .given)) (x .stop) ∙ ap (movesTold t (stopOf t f m)) (x .given) ∙ sym (moves-told t f m) in
+        record { answer = rw (same, x .pieces, x .errors, x .arguments, no-places t f m e, no-lines t f m e); pieces = x .wrote-pieces; errors = x .wrote-errors }
+
+  -- what is given back can be counted
+  given-sum : length t ≤ 65535 → (k : ℕ) (s : State) → givenIn (stepsFrom k t f m s) ≤ k * 262140
+  unfolding stepsFrom givenIn
+  given-sum h zero s = omega arith
+  given-sum h (suc k) s = go (onward s (stepAt t f m s)) (given-sum h k)
+    where
+      go : (o : Onward) → ((a : State) → givenIn (stepsFrom k t f m a) ≤ k * 262140) → givenIn (stepAt t f m s ∷ follow (stepsFrom k t f m) o) ≤ suc k * 262140
+      go Onward.Over on = omega (arith, step-given t f m s)
+      go (Onward.To a) on = omega (arith, step-given t f m s, on a)
+
+  pub given-small : length t ≤ 65535 → {n : ℕ} → n ≡ given t f m → n ≤ 0xFFFFFFFFFFFF
+  unfolding given reading
+  given-small h e = omega (arith, e, given-sum h (length t + 1) start)
 
   module _ (ps es ls ns : List ℕ) where
     -- lists of numbers with room for so many records
@@ -112,10 +132,10 @@ module _ (t : List ℕ) (f : Frame) (m : Mode) where
     -- THE LISTS AT EXIT
     module _ {n : ℕ} {c : Counts} {r : Rooms} (p : n ≡ roomFor c r) (e : c ≡ countsOf t f m) (q : r ≡ roomsIn ps es ls ns) where
       -- a list without room leaves them all
-      pub refused-by : (n ≡ 0 → ⊥) → ReadBy t f m ps ps es es ls ls ns ns (answered n 0 c 0)
+      pub refused-by : (n ≡ 0 → ⊥) → ReadBy t f m ps ps es es ls ls ns ns (answered n 0 c 0 0)
       refused-by some =
           record {
-            answer = ap (answered n 0 c) (unsaid (wants (pieces t f m)) some) ∙ rw (p, e, q);
+            answer = ap (λ (w : ℕ). answered n 0 c w 0) (unsaid (wants (pieces t f m)) some) ∙ ap (answered n 0 c _) (unsaid (moves t f m) some) ∙ rw (p, e, q);
             lists =
                 record {
                   pieces = at-refused n (piecesIn t f m) ps some;
@@ -126,12 +146,12 @@ module _ (t : List ℕ) (f : Frame) (m : Mode) where
           }
 
       -- with room each is filled
-      pub done-by : {w : ℕ} {ps′ es′ ls′ ns′ : List ℕ} → w ≡ wants (pieces t f m) → n ≡ 0 → ps′ ≡ over (piecesIn t f m) ps → es′ ≡ over (errorsIn t f m) es →
+      pub done-by : {w v : ℕ} {ps′ es′ ls′ ns′ : List ℕ} → w ≡ wants (pieces t f m) → v ≡ moves t f m → n ≡ 0 → ps′ ≡ over (piecesIn t f m) ps → es′ ≡ over (errorsIn t f m) es →
           ls′ ≡ over (pairs (places t f m)) ls → ns′ ≡ over (pairs (lines t f m)) ns →
-          ReadBy t f m ps ps′ es es′ ls ls′ ns ns′ (answered n 0 c w)
-      done-by v z a b d g =
+          ReadBy t f m ps ps′ es es′ ls ls′ ns ns′ (answered n 0 c w v)
+      done-by {w} {v} ew ev z a b d g =
           record {
-            answer = ap (answered n 0 c) (v ∙ said (wants (pieces t f m)) z) ∙ rw (p, e, q);
+            answer = ap (λ (x : ℕ). answered n 0 c x v) (ew ∙ said (wants (pieces t f m)) z) ∙ ap (answered n 0 c _) (ev ∙ said (moves t f m) z) ∙ rw (p, e, q);
             lists =
                 record {
                   pieces = a ∙ at-done n (piecesIn t f m) ps z;
@@ -146,4 +166,4 @@ module _ (t : List ℕ) (f : Frame) (m : Mode) where
         ReadBy t f m ps ps′ es es′ ls ls ns ns a
     roomy-by {r = r} q x y =
         rw (y .answer)
-        (done-by (sym (roomy-zero x)) refl q refl refl (y .pieces) (y .errors) (rw (no-places t f m (x .literal)) (over-none ls)) (rw (no-lines t f m (x .literal)) (over-none ns)))
+        (done-by (sym (roomy-zero x)) refl q refl refl refl (y .pieces) (y .errors) (rw (no-places t f m (x .literal)) (over-none ls)) (rw (no-lines t f m (x .literal)) (over-none ns)))

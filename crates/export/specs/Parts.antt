@@ -8,12 +8,14 @@ use Rattle.frame.specs.Bounds.{Small}
 use Rattle.frame.specs.declared.Frame.{Frame}
 use Rattle.frame.specs.declared.Mode.{Mode}
 use Rattle.reading.specs.Lists.{pieces, places, lines, countsOf}
+use Rattle.reading.specs.Moves.{moves}
 use Rattle.reading.specs.Wants.{wants}
-use Rattle.reading.specs.Answers.{answered, answerOf, frameFor, modeFor}
+use Rattle.reading.specs.Answers.{answered, frameFor, modeFor}
 use Rattle.laws.specs.Deciding.{countedBy}
 use Rattle.reading.specs.Written.{over, pairs}
 use Rattle.reading.specs.Exits.{atExit}
-use Rattle.reading.specs.declared.Request.{Request}
+use Rattle.answer.specs.Asking.{askedAnswer}
+use Rattle.answer.specs.declared.Asked.{Asked}
 use Rattle.reading.specs.declared.Rooms.{Rooms}
 use Rattle.reading.specs.declared.Answer.{Answer}
 use Rattle.words.specs.Calls.{piecesIn, errorsIn}
@@ -34,7 +36,7 @@ pub record Ample (t : List ℕ) (f : Frame) (ps es : List ℕ) : Type 0 where
 
 -- a text that is read without being counted first: done, and both lists filled
 pub record Filled (t : List ℕ) (f : Frame) (m : Mode) (ps ps′ es es′ : List ℕ) (a : Answer) : Type 0 where
-  pub answer : a ≡ answered 0 0 (countsOf t f m) (wants (pieces t f m))
+  pub answer : a ≡ answered 0 0 (countsOf t f m) (wants (pieces t f m)) (moves t f m)
   pub pieces : ps′ ≡ over (piecesIn t f m) ps
   pub errors : es′ ≡ over (errorsIn t f m) es
 
@@ -50,7 +52,7 @@ pub record ReadBy (t : List ℕ) (f : Frame) (m : Mode) (ps ps′ es es′ ls ls
   pub answer : a ≡ countedBy t f m (roomsIn ps es ls ns)
   pub lists : Lists t f m (a .number) ps ps′ es es′ ls ls′ ns ns′
 
--- a call
-pub record Read (t s : List ℕ) (q : Request) (ps ps′ es es′ ls ls′ ns ns′ : List ℕ) (a : Answer) : Type 0 where
-  pub answer : a ≡ answerOf t s q (roomsIn ps es ls ns)
-  pub lists : Lists t (frameFor t s q) (modeFor q) (a .number) ps ps′ es es′ ls ls′ ns ns′
+-- a call on a text of which something may be known
+pub record Read (t s : List ℕ) (q : Asked) (ps ps′ es es′ ls ls′ ns ns′ : List ℕ) (a : Answer) : Type 0 where
+  pub answer : a ≡ askedAnswer q t s (roomsIn ps es ls ns)
+  pub lists : Lists t (frameFor t s (q .request)) (modeFor (q .request)) (a .number) ps ps′ es es′ ls ls′ ns ns′

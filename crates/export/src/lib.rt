@@ -1,28 +1,31 @@
 // The public call for programs in other languages, on numbers and lent lists of numbers. include/nitarehpu.h says the same in C's words.
+use answer::Asked;
 use answer::decide::decide;
-use answer::decide::opened;
+use answer::decide::fresh;
+use answer::decide::opened_by;
 use answer::decide::room_for;
 use frame::Frame;
 use frame::Mode;
 use reading::Answer;
 use reading::Counts;
-use reading::Request;
 use reading::Rooms;
 use spans::fill_lines;
 use spans::fill_places;
+use tally::moves_told;
 use words::request::request_of;
 ghost use mathlib.Core.Path.{_≡_};
 ghost use mathlib.Core.Bool.{true};
 ghost use Prim.Native.Nat.{_≤_};
 ghost use lib.ListN.{length};
 ghost use Rattle.frame.specs.Bounds.{Small};
+ghost use Rattle.utf8.specs.Chars.{charsFrom};
 ghost use Rattle.reading.specs.Written.{over};
 ghost use Rattle.words.specs.Calls.{Exported, Counted, requestOf, roomsIn, answerWords};
 ghost use Rattle.export.specs.Parts.{Roomy, Ample, Filled, ReadBy, Read};
 
-// The seven numbers of an answer, over the first of a list.
-fn put_answer(out: &mut [usize], answer: Answer)
-    requires { ⌜ 7 ≤ length (now out) ⌝ }
+// The eight numbers of an answer, over the first of a list.
+pub fn put_answer(out: &mut [usize], answer: Answer)
+    requires { ⌜ 8 ≤ length (now out) ⌝ }
     ensures { λ _. ⌜ now (out .exit) ≡ over (answerWords answer) (now (out .entry)) ⌝ }
 {
     let counts = answer.counts;
@@ -33,6 +36,7 @@ fn put_answer(out: &mut [usize], answer: Answer)
     out[4] = counts.places;
     out[5] = counts.lines;
     out[6] = answer.arguments;
+    out[7] = answer.moves;
 }
 
 // Whether both lists have room for whatever a text of so many bytes holds: a record a byte is enough. Only source literals need the other lists.
@@ -49,8 +53,15 @@ fn is_roomy(size: usize, frame: Frame, rooms: Rooms) -> bool
 }
 
 // A text whose lists are roomy is read without being counted first.
-fn filled(text: &[u8], frame: Frame, mode: Mode, pieces: &mut [u32], errors: &mut [u32]) -> Answer
-    requires { ⌜ Ample (now text) frame (now pieces) (now errors) ⌝ }
+fn filled(
+    text: &[u8],
+    chars: usize,
+    frame: Frame,
+    mode: Mode,
+    pieces: &mut [u32],
+    errors: &mut [u32],
+) -> Answer
+    requires { ⌜ Ample (now text) frame (now pieces) (now errors) × (chars ≡ length (charsFrom (now text) 0)) ⌝ }
     ensures { λ r. ⌜ Filled (now (text .entry)) frame mode (now (pieces .entry)) (now (pieces .exit)) (now (errors .entry)) (now (errors .exit)) r ⌝ }
 {
     let got = fills::run::fill(text, frame, mode, pieces, errors);
@@ -65,12 +76,14 @@ fn filled(text: &[u8], frame: Frame, mode: Mode, pieces: &mut [u32], errors: &mu
         place: 0,
         counts,
         arguments: got.arguments,
+        moves: moves_told(text, chars, got.stop, got.given),
     }
 }
 
 // A text that is counted first: its lists are filled where each has room.
 fn counted(
     text: &[u8],
+    chars: usize,
     frame: Frame,
     mode: Mode,
     rooms: Rooms,
@@ -79,10 +92,10 @@ fn counted(
     places: &mut [usize],
     lines: &mut [usize],
 ) -> Answer
-    requires { ⌜ Small (now text) frame × (rooms ≡ roomsIn (now pieces) (now errors) (now places) (now lines)) ⌝ }
+    requires { ⌜ Small (now text) frame × (chars ≡ length (charsFrom (now text) 0)) × (rooms ≡ roomsIn (now pieces) (now errors) (now places) (now lines)) ⌝ }
     ensures { λ r. ⌜ ReadBy (now (text .entry)) frame mode (now (pieces .entry)) (now (pieces .exit)) (now (errors .entry)) (now (errors .exit)) (now (places .entry)) (now (places .exit)) (now (lines .entry)) (now (lines .exit)) r ⌝ }
 {
-    let told = tally::tally(text, frame, mode);
+    let told = tally::tally(text, chars, frame, mode);
     let counts = told.counts;
     let number = room_for(counts, rooms);
     if number == 0 {
@@ -94,6 +107,7 @@ fn counted(
             place: 0,
             counts,
             arguments: told.arguments,
+            moves: told.moves,
         };
     }
     Answer {
@@ -101,20 +115,21 @@ fn counted(
         place: 0,
         counts,
         arguments: 0,
+        moves: 0,
     }
 }
 
-// The answer to a call, and its lists filled where it is done.
-fn read(
+// The answer to a call on a text of which something may be known, and its lists filled where it is done.
+pub fn read_by(
     text: &[u8],
     snippet: &[u8],
-    request: Request,
+    asked: Asked,
     pieces: &mut [u32],
     errors: &mut [u32],
     places: &mut [usize],
     lines: &mut [usize],
 ) -> Answer
-    ensures { λ r. ⌜ Read (now (text .entry)) (now (snippet .entry)) request (now (pieces .entry)) (now (pieces .exit)) (now (errors .entry)) (now (errors .exit)) (now (places .entry)) (now (places .exit)) (now (lines .entry)) (now (lines .exit)) r ⌝ }
+    ensures { λ r. ⌜ Read (now (text .entry)) (now (snippet .entry)) asked (now (pieces .entry)) (now (pieces .exit)) (now (errors .entry)) (now (errors .exit)) (now (places .entry)) (now (places .exit)) (now (lines .entry)) (now (lines .exit)) r ⌝ }
 {
     let rooms = Rooms {
         pieces: pieces.len() / 40,
@@ -122,7 +137,7 @@ fn read(
         places: places.len() / 2,
         lines: lines.len() / 2,
     };
-    let first = opened(text, snippet, request);
+    let first = opened_by(text, snippet, asked);
     let answer = first.answer;
     let frame = first.frame;
     let mode = first.mode;
@@ -130,12 +145,22 @@ fn read(
         return answer;
     }
     if is_roomy(text.len(), frame, rooms) {
-        return filled(text, frame, mode, pieces, errors);
+        return filled(text, first.chars, frame, mode, pieces, errors);
     }
-    counted(text, frame, mode, rooms, pieces, errors, places, lines)
+    counted(
+        text,
+        first.chars,
+        frame,
+        mode,
+        rooms,
+        pieces,
+        errors,
+        places,
+        lines,
+    )
 }
 
-// Reads a text into four lists of numbers: 40 a piece, 16 an error record, 2 a span. The answer's seven numbers go to a list of their own; without
+// Reads a text into four lists of numbers: 40 a piece, 16 an error record, 2 a span. The answer's eight numbers go to a list of their own; without
 // room for them the call is refused with 255. A refusal changes no list.
 #[no_mangle]
 pub extern "C" fn nitarehpu_read(
@@ -154,16 +179,17 @@ pub extern "C" fn nitarehpu_read(
 ) -> u8
     ensures { λ r. ⌜ Exported (now (text .entry)) (now (snippet .entry)) (requestOf mode style hashes given newline) (now (pieces .entry)) (now (pieces .exit)) (now (errors .entry)) (now (errors .exit)) (now (places .entry)) (now (places .exit)) (now (lines .entry)) (now (lines .exit)) (now (answer .entry)) (now (answer .exit)) r ⌝ }
 {
-    if answer.len() < 7 {
+    if answer.len() < 8 {
         return 255;
     }
     let request = request_of(mode, style, hashes, given, newline);
-    let got = read(text, snippet, request, pieces, errors, places, lines);
+    let asked = fresh(request);
+    let got = read_by(text, snippet, asked, pieces, errors, places, lines);
     put_answer(answer, got);
     got.number
 }
 
-// How many records each list of a reading needs and how many arguments its pieces want, with the same refusals 1 to 5 and 255.
+// How many records each list of a reading needs, how many arguments its pieces want and how many characters it passes, with the same refusals 1 to 5 and 255.
 #[no_mangle]
 pub extern "C" fn nitarehpu_count(
     text: &[u8],
@@ -177,7 +203,7 @@ pub extern "C" fn nitarehpu_count(
 ) -> u8
     ensures { λ r. ⌜ Counted (now (text .entry)) (now (snippet .entry)) (requestOf mode style hashes given newline) (now (answer .entry)) (now (answer .exit)) r ⌝ }
 {
-    if answer.len() < 7 {
+    if answer.len() < 8 {
         return 255;
     }
     let request = request_of(mode, style, hashes, given, newline);

@@ -1,5 +1,9 @@
 -- Laws that the proofs of `fills` share.
+pub mod Spoiling
 pub mod Telling
 pub mod Wrongs
 pub mod Stepping
+pub mod Passing
+pub mod Ways
+pub mod Stopping
 pub mod Running

@@ -1,22 +1,25 @@
 -- A whole text written step by step: some pieces and records are written, the steps left give the rest. Then what the two runs of `fill` leave.
 -- Rests on StepsWritten, Filling, Noting and Overlays, and on `laws`' WalkLaws, FaultLaws and ListLaws.
-use Prim.Native.Nat.{ℕ, suc, _+_, _-_, _*_, _≤_, _<_}
-use mathlib.Core.Path.{_≡_, refl, sym, ap, _∙_}
-use mathlib.Core.Bool.{Bool, true, false}
+use Prim.Native.Nat.{ℕ, zero, suc, _+_, _-_, _*_, _≤_, _<_}
+use mathlib.Core.Path.{_≡_, refl, sym, ap, subst, _∙_}
+use mathlib.Core.Bool.{Bool, true, false, true≢false}
 use mathlib.Core.List.{List, [], _∷_, _++_}
+use native.Mathlib.Nat.{zero-add}
 use native.Mathlib.Omega.{arith}
 use lib.ListN.{length, length-append}
 use Rattle.frame.specs.Bounds.{Small}
 use Rattle.frame.specs.declared.Frame.{Frame}
 use Rattle.frame.specs.declared.Mode.{Mode}
-use Rattle.reading.specs.Faults.{stepSlots, faultsOf, Finding}
+use Rattle.reading.specs.Faults.{stepSlots, wrong, faultsOf, Finding}
 use Rattle.reading.specs.Lists.{gather, piecesOf, pieces, frontOnly, backOnly, reversed, listed, records, findings, found, errors}
 use Rattle.laws.specs.ListLaws.{gather-append, gather-more, parts-length, findings-more, findings-none, errors-found}
 use Rattle.reading.specs.Steps.{stepAt, onward, follow, stepsFrom, start, reading}
-use Rattle.laws.specs.StepLaws.{steps-none}
-use Rattle.laws.specs.StateLaws.{lastState, last-on, last-over, last-none, arguments-all}
+use Rattle.laws.specs.MoveLaws.{givenBy, givenIn, given, stopOf, given-on, given-last, step-given}
+use Rattle.laws.specs.StepLaws.{step-later}
+use Rattle.laws.specs.StateLaws.{lastState, last-on, last-over, arguments-all}
 use Rattle.reading.specs.Wants.{wants}
 use Rattle.laws.specs.WalkLaws.{Kept, kept-start, kept-on, steps-some, steps-on, steps-over}
+use Rattle.reading.specs.declared.Onward.{Onward}
 use Rattle.reading.specs.declared.Piece.{Piece}
 use Rattle.reading.specs.declared.State.{State}
 use Rattle.reading.specs.declared.Step.{Step}
@@ -27,11 +30,12 @@ use Rattle.words.specs.Layout.{pieceWords, errorWords}
 use Rattle.fills.specs.Filling.{Fills}
 use Rattle.words.specs.Calls.{piecesIn, errorsIn}
 use Rattle.writing.specs.StepsWritten.{Noted, notedBy, notes, noticed, StepRoom, Stepped, SteppedOn}
-use Rattle.fills.specs.Lane.{fresh, Ran}
+use Rattle.fills.specs.Lane.{Clear, Way, LaneRoom, LaneRan, Figures, fresh, Ran}
+use Rattle.fills.specs.declared.lane.Stopped.{Stopped}
 use Rattle.writing.specs.declared.Extent.{Extent}
 use Rattle.writing.specs.declared.StepWritten.{StepWritten}
 use Rattle.writing.proofs.Overlays.{laid-none, laid-first, over-again, gather-length}
-use Rattle.writing.proofs.Noting.{Left, left-first, left-on, left-room, inWords, words-more, words-none, words-length, Counted, notes-counted, notes-placed}
+use Rattle.writing.proofs.Noting.{noticed-none, noticed-same, notes-none, Left, left-first, left-on, left-room, inWords, words-more, words-none, words-length, Counted, notes-counted, notes-placed}
 
 -- HOW MANY: there are as many records as go to the front and to the back
 module _ (t : List ℕ) (f : Frame) (m : Mode) where
@@ -98,11 +102,13 @@ pub record Going (t : List ℕ) (f : Frame) (m : Mode) (k : ℕ) (ps₀ es₀ ps
   pub errors : Left t f (fresh k es₀) (found t f m) (notedBy r es) (findings (r .pieces) (stepsFrom left t f m s))
   pub kept : Kept left s
   pub last : lastState left t f m s ≡ lastState (length t + 1) t f m start
+  pub inside : s .at .0 ≤ length t
+  pub far : length t < s .at .0 + left
 
 module _ (t : List ℕ) (f : Frame) (m : Mode) where
   module _ (k : ℕ) (ps₀ es₀ : List ℕ) (room : 40 * length (pieces t f m) ≤ length ps₀) where
     -- at the start
-    pub going-first : Small t f → 16 * length (errors t f m) ≤ length es₀ → k ≤ length (frontOnly (found t f m)) →
+    going-first : Small t f → 16 * length (errors t f m) ≤ length es₀ → k ≤ length (frontOnly (found t f m)) →
         Going t f m k ps₀ es₀ ps₀ es₀ start (record { pieces = 0; low = k; high = k; fronts = 0 }) (length t + 1)
     unfolding pieces found reading
     going-first small r h =
@@ -114,6 +120,8 @@ module _ (t : List ℕ) (f : Frame) (m : Mode) where
               (record { back = omega arith; front = omega arith; count = omega arith });
           kept = kept-start t (small .text);
           last = refl;
+          inside = omega arith;
+          far = omega arith;
         }
 
     -- all is written
@@ -123,18 +131,8 @@ module _ (t : List ℕ) (f : Frame) (m : Mode) where
     ran p l = record { pieces = laying-done p refl .0; wrote = laying-done p refl .1; noted = l .gives }
 
     module _ {ps es : List ℕ} (s : State) {r : Extent} (left : ℕ) (g : Going t f m k ps₀ es₀ ps es s r left) where
-      -- no turns are left
-      pub going-none : left ≤ 0 → Ran t f m k ps₀ es₀ r ps es
-      unfolding gather
-      going-none h =
-          let e = steps-none t f m left s h in
-          ran (rw e at (g .pieces)) (rw (e, findings-none (r .pieces)) at (g .errors))
-
-      pub wanted-none : left ≤ 0 → s .arguments ≡ wants (pieces t f m)
-      wanted-none h = ap (λ (s : State). s .arguments) (sym (last-none t f m s left h) ∙ g .last) ∙ arguments-all t f m
-
       -- there is room for the step where reading stands
-      pub going-room : 0 < left → StepRoom (stepAt t f m s) r ps es
+      going-room : 0 < left → StepRoom (stepAt t f m s) r ps es
       going-room h =
           let x = stepAt t f m s in
           let more = follow (stepsFrom (left - 1) t f m) (onward s x) in
@@ -160,7 +158,7 @@ module _ (t : List ℕ) (f : Frame) (m : Mode) where
 
       module _ {o : StepWritten} {ps′ es′ : List ℕ} (h : 0 < left) (d : SteppedOn t f m s r ps es o ps′ es′) where
         -- reading goes on
-        pub going-on : o .more ≡ true → Going t f m k ps₀ es₀ ps′ es′ (o .state) (o .extent) (left - 1)
+        going-on : o .more ≡ true → Going t f m k ps₀ es₀ ps′ es′ (o .state) (o .extent) (left - 1)
         going-on y =
             let to = d .on y in
             let more = stepsFrom (left - 1) t f m (o .state) in
@@ -170,17 +168,175 @@ module _ (t : List ℕ) (f : Frame) (m : Mode) where
               errors = errors-on (d .stepped) more e;
               kept = kept-on t f m s refl left h to (g .kept);
               last = sym (last-on t f m s refl left h to) ∙ g .last;
+              inside = step-later t f m s to .inside;
+              far = omega (arith, step-later t f m s to .on, g .far, h);
             }
 
         -- it is over
-        pub going-over : o .more ≡ false → Ran t f m k ps₀ es₀ (o .extent) ps′ es′
+        going-over : o .more ≡ false → Ran t f m k ps₀ es₀ (o .extent) ps′ es′
         unfolding gather
         going-over n =
             let e = steps-over t f m s refl left h (d .over n) in
             ran (pieces-on (d .stepped) [] e) (rw findings-none at (errors-on (d .stepped) [] e))
 
-        pub wanted-over : o .more ≡ false → s .arguments ≡ wants (pieces t f m)
+        wanted-over : o .more ≡ false → s .arguments ≡ wants (pieces t f m)
         wanted-over n = ap (λ (s : State). s .arguments) (sym (last-over t f m s refl left (d .over n)) ∙ g .last) ∙ arguments-all t f m
+
+-- PIECES MORE, laid after others
+laid-more : (ps : List ℕ) (n : ℕ) (xs ys : List Piece) → 40 * (n + length xs + length ys) ≤ length ps →
+    laid (laid ps (40 * n) (gather pieceWords xs)) (40 * (n + length xs)) (gather pieceWords ys) ≡ laid ps (40 * n) (gather pieceWords (xs ++ ys))
+laid-more ps n xs ys h =
+    let x = gather-length pieceWords 40 pieceWords-length xs in
+    let y = gather-length pieceWords 40 pieceWords-length ys in
+    let q : 40 * (n + length xs) ≡ 40 * n + length (gather pieceWords xs) = omega (arith, x) in
+    ap (λ (i : ℕ). laid (laid ps (40 * n) (gather pieceWords xs)) i (gather pieceWords ys)) q
+    ∙ laid-on ps (40 * n) (gather pieceWords xs) (gather pieceWords ys) (omega (arith, x, y, h))
+    ∙ ap (laid ps (40 * n)) (sym (gather-append pieceWords xs ys))
+
+none-more : (ps : List ℕ) (k : ℕ) → laid ps k (gather pieceWords []) ≡ ps
+unfolding gather
+none-more ps k = laid-none ps k
+
+-- HOW MUCH IS GIVEN BACK: not much
+given-some : (t : List ℕ) (f : Frame) (m : Mode) → length t ≤ 65535 → (k : ℕ) (s : State) → givenIn (stepsFrom k t f m s) ≤ 262140 * k
+unfolding stepsFrom givenIn
+given-some t f m h zero s = omega arith
+given-some t f m h (suc k) s = go (onward s (stepAt t f m s)) (λ a. given-some t f m h k a)
+  where
+    go : (o : Onward) → ((a : State) → givenIn (stepsFrom k t f m a) ≤ 262140 * k) →
+        givenBy (stepAt t f m s) + givenIn (follow (stepsFrom k t f m) o) ≤ 262140 * suc k
+    go Onward.Over rest = omega (arith, step-given t f m s, h)
+    go (Onward.To a) rest = omega (arith, step-given t f m s, h, rest a)
+
+pub given-all : (t : List ℕ) (f : Frame) (m : Mode) → length t ≤ 65535 → given t f m ≤ 262140 * 65536
+unfolding given reading
+given-all t f m h = omega (arith, given-some t f m h (length t + 1) start, h)
+
+-- A RUN, whatever number of turns is left: there is one more, since each step passes a byte. So much was given back
+pub record Underway (t : List ℕ) (f : Frame) (m : Mode) (k : ℕ) (ps₀ es₀ ps es : List ℕ) (s : State) (r : Extent) (g : ℕ) : Type 0 where
+  pub left : ℕ
+  pub going : Going t f m k ps₀ es₀ ps es s r left
+  pub back : g + givenIn (stepsFrom left t f m s) ≡ given t f m
+
+-- what is written after some pieces more
+abbrev pub further : Extent → ℕ → Extent
+further r n = record { pieces = n; low = r .low; high = r .high; fronts = r .fronts }
+
+module _ (t : List ℕ) (f : Frame) (m : Mode) (k : ℕ) (ps₀ es₀ : List ℕ) (room : 40 * length (pieces t f m) ≤ length ps₀) where
+  -- at the start
+  pub underway-first : Small t f → 16 * length (errors t f m) ≤ length es₀ → k ≤ length (frontOnly (found t f m)) →
+      Underway t f m k ps₀ es₀ ps₀ es₀ start (record { pieces = 0; low = k; high = k; fronts = 0 }) 0
+  unfolding given reading
+  underway-first small r h = record { left = length t + 1; going = going-first t f m k ps₀ es₀ room small r h; back = zero-add _ }
+
+  module _ {ps es : List ℕ} {s : State} {r : Extent} {g : ℕ} (u : Underway t f m k ps₀ es₀ ps es s r g) where
+    one-left : 0 < u .left
+    one-left = omega (arith, u .going .inside, u .going .far)
+
+    -- there is room for the step where reading stands
+    pub standing-room : StepRoom (stepAt t f m s) r ps es
+    standing-room = going-room t f m k ps₀ es₀ room s (u .left) (u .going) one-left
+
+    pub standing-next : s .next < 0xFFFFE
+    standing-next = omega (arith, u .going .kept .next)
+
+    module _ {o : StepWritten} {ps′ es′ : List ℕ} (d : SteppedOn t f m s r ps es o ps′ es′) where
+      -- reading goes on
+      pub underway-on : o .more ≡ true → Underway t f m k ps₀ es₀ ps′ es′ (o .state) (o .extent) (g + o .given)
+      underway-on y =
+          record {
+            left = u .left - 1;
+            going = going-on t f m k ps₀ es₀ room s (u .left) (u .going) one-left d y;
+            back = omega (arith, u .back, d .given, given-on t f m s refl (u .left) one-left (d .on y));
+          }
+
+      -- it is over
+      pub underway-over : o .more ≡ false → Ran t f m k ps₀ es₀ (o .extent) ps′ es′ × Figures t f m (s .arguments) (g + o .given) (s .at .0)
+      unfolding stopOf
+      underway-over n = (
+        going-over t f m k ps₀ es₀ room s (u .left) (u .going) one-left d n,
+        record {
+          wanted = wanted-over t f m k ps₀ es₀ room s (u .left) (u .going) one-left d n;
+          gave = omega (arith, u .back, d .given, given-last t f m s refl (u .left) one-left (d .over n));
+          stopped = ap (λ (s : State). s .at .0) (sym (last-over t f m s refl (u .left) (d .over n)) ∙ u .going .last);
+        },
+      )
+
+    -- a step that the lane passes
+    clear-on : {a : State} → Clear t f m s a →
+        Underway t f m k ps₀ es₀ (laid ps (40 * r .pieces) (gather pieceWords (piecesOf (stepAt t f m s)))) es a (further r (r .pieces + length (piecesOf (stepAt t f m s)))) (g + givenBy (stepAt t f m s))
+    unfolding wrong
+    clear-on {a} c =
+        underway-on {o = record { more = true; state = a; extent = further r (r .pieces + length (piecesOf (stepAt t f m s))); given = givenBy (stepAt t f m s) }}
+        (record {
+          stepped = record {
+            pieces = refl;
+            wrote = refl;
+            noted = sym (rw (noticed-same (r .pieces) (stepSlots (stepAt t f m s)) [] (c .clean), noticed-none (r .pieces)) (notes-none t f (notedBy r es)));
+          };
+          on = λ _. c .goes;
+          over = λ n. absurd (true≢false n);
+          given = refl;
+        })
+        refl
+
+  -- the same list and figures
+  same-underway : (r : Extent) {ps ps′ es : List ℕ} {s : State} {n n′ g g′ : ℕ} → ps ≡ ps′ → n ≡ n′ → g ≡ g′ →
+      Underway t f m k ps₀ es₀ ps es s (further r n) g → Underway t f m k ps₀ es₀ ps′ es s (further r n′) g′
+  same-underway r {ps} {ps′} {es} {s} {n} {n′} {g} {g′} e c b u =
+      subst (λ (l : List ℕ). Underway t f m k ps₀ es₀ l es s (further r n′) g′) e
+      (subst (λ (i : ℕ). Underway t f m k ps₀ es₀ ps es s (further r i) g′) c (subst (λ (i : ℕ). Underway t f m k ps₀ es₀ ps es s (further r n) i) b u))
+
+  -- all those that it passes
+  pub underway-way : {ps es : List ℕ} {s : State} {r : Extent} {g : ℕ} → Underway t f m k ps₀ es₀ ps es s r g → {xs : List Piece} {h : ℕ} {a : State} → Way t f m s xs h a →
+      Underway t f m k ps₀ es₀ (laid ps (40 * r .pieces) (gather pieceWords xs)) es a (further r (r .pieces + length xs)) (g + h)
+  underway-way {ps} {es} {s} {r} {g} u Way.none = same-underway r (sym (none-more ps (40 * r .pieces))) (omega arith) (omega arith) u
+  underway-way {ps} {es} {s} {r} {g} u (Way.more {xs} {h} {a} {b} w c) =
+      let v = underway-way u w in
+      let ys = piecesOf (stepAt t f m a) in
+      same-underway r (laid-more ps (r .pieces) xs ys (omega (arith, standing-room v .pieces, v .going .pieces .same, u .going .pieces .same)))
+      (omega (arith, length-append xs ys))
+      (omega arith)
+      (clear-on v c)
+
+  module _ (small : length t ≤ 65535) {ps es : List ℕ} {s : State} {r : Extent} {g : ℕ} (u : Underway t f m k ps₀ es₀ ps es s r g) where
+    -- so much is given back at most
+    pub back-few : g + givenBy (stepAt t f m s) ≤ 0x7FFFFFFFFFFF
+    back-few = omega (arith, u .back, given-all t f m small, step-given t f m s, small)
+
+  module _ (small : length t ≤ 65535) {ps es : List ℕ} {s : State} {r : Extent} {g : ℕ} (u : Underway t f m k ps₀ es₀ ps es s r g) where
+    -- wherever the lane leads there is room
+    pub lane-room : LaneRoom t f m s (r .pieces) ps
+    lane-room =
+        record {
+          pieces = λ w. let v = underway-way u w in omega (arith, standing-room v .pieces, v .going .pieces .same, u .going .pieces .same);
+          next = λ w. standing-next (underway-way u w);
+          given = λ w. omega (arith, back-few small (underway-way u w));
+        }
+
+    -- where it stopped
+    module _ {o : Stopped} {ps₁ : List ℕ} (d : LaneRan t f m s (r .pieces) ps o ps₁) where
+      abbrev mid : List ℕ
+      mid = laid ps (40 * r .pieces) (gather pieceWords (d .passed))
+
+      pub lane-underway : Underway t f m k ps₀ es₀ mid es (o .state) (further r (o .pieces)) (g + o .given)
+      lane-underway = rw (d .count) (underway-way u (d .way))
+
+      -- there is room for the step there in the list as the lane left it
+      pub lane-left : length ps₁ ≡ length ps → StepRoom (stepAt t f m (o .state)) (further r (o .pieces)) ps₁ es
+      lane-left same =
+          let v = lane-underway in
+          record { pieces = omega (arith, standing-room v .pieces, v .going .pieces .same, u .going .pieces .same, same); errors = standing-room v .errors }
+
+-- A TURN PASSES A BYTE: the lane goes back nowhere
+module _ (t : List ℕ) (f : Frame) (m : Mode) where
+  way-late : {s : State} {xs : List Piece} {h : ℕ} {a : State} → Way t f m s xs h a → s .at .0 ≤ a .at .0
+  way-late Way.none = omega arith
+  way-late {s} (Way.more {xs} {h} {a} {b} w c) = omega (arith, way-late w, step-later t f m a (c .goes) .on)
+
+  pub run-later : {s a : State} {xs : List Piece} {h : ℕ} → Way t f m s xs h a → {r : Extent} {ps es : List ℕ} {o : StepWritten} {ps′ es′ : List ℕ} →
+      SteppedOn t f m a r ps es o ps′ es′ → o .more ≡ true → length t - o .state .at .0 < length t - s .at .0
+  run-later {s} {a} w d y = let l = step-later t f m a (d .on y) in omega (arith, way-late w, l .within, l .on)
 
 -- TWO RUNS
 no-faults : (xs : List Finding) → length xs ≡ 0 → xs ≡ []
@@ -217,7 +373,7 @@ module _ (t : List ℕ) (f : Frame) (m : Mode) {ps es ps₁ es₁ : List ℕ} {r
   first-list = ap (λ (o : Noted). o .list) (g .noted) ∙ first-counted .list ∙ laid-first es (inWords t f back)
 
   -- where none goes to the front that is all
-  pub filled-once : {w : ℕ} → w ≡ wants (pieces t f m) → r .fronts ≡ 0 → Fills t f m ps ps₁ es es₁ (record { pieces = r .pieces; errors = r .fronts + r .high; arguments = w })
+  pub filled-once : {w b p : ℕ} → Figures t f m w b p → r .fronts ≡ 0 → Fills t f m ps ps₁ es es₁ (record { pieces = r .pieces; errors = r .fronts + r .high; arguments = w; given = b; stop = p })
   unfolding reversed
   filled-once said z =
       let none : front ≡ [] = no-faults front (omega (arith, first-fronts)) in
@@ -225,7 +381,9 @@ module _ (t : List ℕ) (f : Frame) (m : Mode) {ps es ps₁ es₁ : List ℕ} {r
       record {
         pieces = g .pieces;
         errors = first-errors;
-        arguments = said;
+        arguments = said .wanted;
+        given = said .gave;
+        stop = said .stopped;
         wrote-pieces = g .wrote;
         wrote-errors = first-list ∙ rw all;
       }
@@ -251,12 +409,14 @@ module _ (t : List ℕ) (f : Frame) (m : Mode) {ps es ps₁ es₁ : List ℕ} {r
           length-append (reversed front) back,
         )
 
-    pub filled-twice : {w : ℕ} → w ≡ wants (pieces t f m) → Fills t f m ps ps₂ es es₂ (record { pieces = r .pieces; errors = r .fronts + r .high; arguments = w })
+    pub filled-twice : {w b p : ℕ} → Figures t f m w b p → Fills t f m ps ps₂ es es₂ (record { pieces = r .pieces; errors = r .fronts + r .high; arguments = w; given = b; stop = p })
     filled-twice said =
         record {
           pieces = g .pieces;
           errors = first-errors;
-          arguments = said;
+          arguments = said .wanted;
+          given = said .gave;
+          stop = said .stopped;
           wrote-pieces = d .wrote ∙ rw (g .wrote) (over-again ps (piecesIn t f m) (piecesIn t f m) (omega arith));
           wrote-errors = second-list ∙ rw first-list (over-again es (inWords t f back) (errorsIn t f m) fewer);
         }

@@ -1,7 +1,7 @@
 -- The numbers of what the quick lane tells, part by part: each part's four numbers are the layout's. Rests on Lane, quick's Tellings and words' Layout.
 use Prim.Native.Nat.{ℕ, _+_, _≤_, _<_}
 use mathlib.Core.Path.{_≡_, refl, sym, ap, _∙_}
-use mathlib.Core.Bool.{Bool, true, false}
+use mathlib.Core.Bool.{Bool, true, false, true≢false}
 use mathlib.Core.List.{List, _++_, append-assoc}
 use native.Mathlib.Omega.{arith}
 use borrow.Author.Tests.{eqb-true, eqb-false, eq-eqb, ne-eqb}
@@ -25,20 +25,28 @@ use Rattle.reading.specs.Wants.{larger, placeWants, countWants, argumentWants}
 use Rattle.laws.specs.WantLaws.{larger-left, larger-right, larger-least, larger-none, larger-assoc}
 use Rattle.reading.specs.declared.State.{State}
 use Rattle.quick.specs.Tellings.{foundOf, countOf, widthOf, countSpan, fillOf, typeSpan, afterStar, specOf, argumentOf, nextOf}
+use Rattle.quick.specs.PartsTold.{part}
 use Rattle.quick.specs.declared.TypeTold.{TypeTold}
 use Rattle.quick.specs.declared.PartTold.{PartTold}
 use Rattle.quick.specs.declared.SpecTold.{SpecTold}
 use Rattle.quick.specs.declared.PlaceholderTold.{PlaceholderTold}
 use Rattle.words.specs.Laid.{laid}
-use Rattle.words.specs.LaidLaws.{laid-on, fillWords-length, placeWords-length, countWords-length, specWords-length, zeros-length}
+use Rattle.words.specs.LaidLaws.{laid-on, fillWords-length, placeWords-length, countWords-length, specWords-length, zeros-length, spanWords-length, argumentWords-length}
 use Rattle.words.specs.Layout.{lowOf, four, none, bitOf, alignOf, signOf, placeTag, placeWords, fillWords, spanWords, countData, nameSpanEnd, countWords, headWords, specWords, argumentWords, zeros}
+use Rattle.writing.proofs.Overlays.{laid-before}
 use Rattle.words.proofs.Laying.{laying-first, laying-on, laying-last}
-use Rattle.fills.specs.Lane.{placeOf, toldHead, nameWords, widthWants, withCounts, toldState}
+use Rattle.fills.specs.Lane.{Spoilt, Put, placeOf, toldHead, nameWords, widthWants, withCounts, toldState}
+use Rattle.fills.proofs.Spoiling.{spoilt-laid, put-laid, spoilt-wide, spoilt-then}
 
 -- NUMBERS OF ARGUMENTS: a star takes one at most
 pub star-few : (n : ℕ) (p : PartTold) → afterStar n p ≤ n + 1
 unfolding afterStar
 star-few n p = pick-elim (λ (m : ℕ). m ≤ n + 1) (eqb (p .tag) 3) (λ _. omega arith) (λ _. omega arith)
+
+-- and none where there is no precision
+pub star-none : (n : ℕ) {p : PartTold} {at : ℕ} → p ≡ part 0 0 at false → afterStar n p ≡ n
+unfolding afterStar pick
+star-none n e = rw e
 
 -- THE PLACE by its tag: nothing, a number, a word
 module _ (at : ℕ) (p : PartTold) where
@@ -96,6 +104,15 @@ module _ (s : State) (x : PlaceholderTold) where
 pub two-laid : (l : List ℕ) (k : ℕ) (a b : List ℕ) (j : ℕ) → j ≡ k + length a → k + length a + length b ≤ length l → {l₁ l₂ : List ℕ} →
     l₁ ≡ laid l k a → l₂ ≡ laid l₁ j b → l₂ ≡ laid l k (a ++ b)
 two-laid l k a b j e h p q = q ∙ rw (p, e) (laid-on l k a b h)
+
+-- two parts of four numbers
+spoilt-two : (l : List ℕ) (k : ℕ) (a b : List ℕ) → length a ≡ 4 → length b ≡ 4 → k + 8 ≤ length l → {l₁ l₂ : List ℕ} → l₁ ≡ laid l k a →
+    l₂ ≡ laid l₁ (k + 4) b → Spoilt k 8 l l₂
+spoilt-two l k a b p q h w₁ w₂ =
+    let e : k + 4 ≡ k + length a = omega (arith, p) in
+    let r : k + length a + length b ≤ length l = omega (arith, p, q, h) in
+    let c : length (a ++ b) ≡ 8 = omega (arith, length-append a b, p, q) in
+    spoilt-laid l k (a ++ b) (omega (arith, c, h)) (two-laid l k a b (k + 4) e r w₁ w₂) c
 
 -- THE HEAD: a place has its tag
 place-tag : (at : ℕ) (p : PartTold) (n : ℕ) → p .tag ≤ 2 → placeTag (placeOf at p n) ≡ p .tag
@@ -171,12 +188,12 @@ module _ (t : List ℕ) (f : Frame) (from n : ℕ) (p : PartTold) where
   unfolding countSpan pick
   span-some e = rw (ne-eqb (p .tag) 0 e)
 
-  pub count-none : p .tag ≡ 0 → (l : List ℕ) (k : ℕ) → k + 8 ≤ length l → {l₁ l₂ : List ℕ} → l₁ ≡ laid l k none → l₂ ≡ laid l₁ (k + 4) none →
+  count-none : p .tag ≡ 0 → (l : List ℕ) (k : ℕ) → k + 8 ≤ length l → {l₁ l₂ : List ℕ} → l₁ ≡ laid l k none → l₂ ≡ laid l₁ (k + 4) none →
       l₂ ≡ laid l k (countWords (countOf n p) (countSpan t f from p))
   count-none e l k h w₁ w₂ =
       rw (count-implied n p e, span-none e) (two-laid l k none none (k + 4) (omega arith) (omega arith) w₁ w₂)
 
-  pub count-some : (p .tag ≡ 0 → ⊥) → p .tag ≤ 3 → (l : List ℕ) (k : ℕ) → k + 8 ≤ length l → {l₁ l₂ : List ℕ} →
+  count-some : (p .tag ≡ 0 → ⊥) → p .tag ≤ 3 → (l : List ℕ) (k : ℕ) → k + 8 ≤ length l → {l₁ l₂ : List ℕ} →
       l₁ ≡ laid l k (four (p .tag) (pick (eqb (p .tag) 3) (lowOf n) (p .value)) 0 0) →
       l₂ ≡ laid l₁ (k + 4) (four 0 1 (lowOf (spanBetween t f (place from) (place (p .end)) .start .0)) (lowOf (spanBetween t f (place from) (place (p .end)) .end .0))) →
       l₂ ≡ laid l k (countWords (countOf n p) (countSpan t f from p))
@@ -185,6 +202,22 @@ module _ (t : List ℕ) (f : Frame) (from n : ℕ) (p : PartTold) where
       let d = count-data n p e h in
       rw (span-some e, ← d .0, ← d .1)
       (two-laid l k (four (p .tag) (pick (eqb (p .tag) 3) (lowOf n) (p .value)) 0 0) (four 0 1 (lowOf (s .start .0)) (lowOf (s .end .0))) (k + 4) (omega arith) (omega arith) w₁ w₂)
+
+  -- told or not, no more than eight numbers are written
+  pub put-none : p .tag ≡ 0 → (l : List ℕ) (k : ℕ) → k + 8 ≤ length l → {l₁ l₂ : List ℕ} → l₁ ≡ laid l k none → l₂ ≡ laid l₁ (k + 4) none →
+      Put (p .tag ≤ 3) k 8 (countWords (countOf n p) (countSpan t f from p)) l l₂
+  put-none e l k h w₁ w₂ = record { wrote = λ _. count-none e l k h w₁ w₂; spoilt = spoilt-two l k none none refl refl h w₁ w₂ }
+
+  pub put-some : (p .tag ≡ 0 → ⊥) → (l : List ℕ) (k : ℕ) → k + 8 ≤ length l → {l₁ l₂ : List ℕ} →
+      l₁ ≡ laid l k (four (p .tag) (pick (eqb (p .tag) 3) (lowOf n) (p .value)) 0 0) →
+      l₂ ≡ laid l₁ (k + 4) (four 0 1 (lowOf (spanBetween t f (place from) (place (p .end)) .start .0)) (lowOf (spanBetween t f (place from) (place (p .end)) .end .0))) →
+      Put (p .tag ≤ 3) k 8 (countWords (countOf n p) (countSpan t f from p)) l l₂
+  put-some e l k room w₁ w₂ =
+      let s = spanBetween t f (place from) (place (p .end)) in
+      record {
+        wrote = λ h. count-some e h l k room w₁ w₂;
+        spoilt = spoilt-two l k (four (p .tag) (pick (eqb (p .tag) 3) (lowOf n) (p .value)) 0 0) (four 0 1 (lowOf (s .start .0)) (lowOf (s .end .0))) refl refl room w₁ w₂;
+      }
 
 -- WHAT IT WANTS: a count by its tag
 module _ (n : ℕ) (p : PartTold) where
@@ -286,13 +319,24 @@ told-wants t f brace n a x = go (x .colon)
 
 -- A WIDTH: a name, or any other count
 module _ (t : List ℕ) (f : Frame) (from word n : ℕ) (p : PartTold) where
-  pub width-name : p .tag ≡ 4 → nameWords t f from word (p .end) ≡ countWords (widthOf t f n from word p) (countSpan t f from p)
+  width-name : p .tag ≡ 4 → nameWords t f from word (p .end) ≡ countWords (widthOf t f n from word p) (countSpan t f from p)
   unfolding nameWords widthOf pick
   width-name e = rw (eq-eqb (p .tag) 4 e, span-some t f from n p (λ z. omega arith))
 
-  pub width-count : (p .tag ≡ 4 → ⊥) → countOf n p ≡ widthOf t f n from word p
+  width-count : (p .tag ≡ 4 → ⊥) → countOf n p ≡ widthOf t f n from word p
   unfolding widthOf pick
   width-count e = rw (ne-eqb (p .tag) 4 e)
+
+  pub put-name : p .tag ≡ 4 → (l : List ℕ) (k : ℕ) → k + 8 ≤ length l → {l₁ : List ℕ} → l₁ ≡ laid l k (nameWords t f from word (p .end)) →
+      Put (p .tag ≤ 4) k 8 (countWords (widthOf t f n from word p) (countSpan t f from p)) l l₁
+  put-name e l k h w =
+      let ws = countWords (widthOf t f n from word p) (countSpan t f from p) in
+      let c = countWords-length (widthOf t f n from word p) (countSpan t f from p) in
+      put-laid l k ws (omega (arith, c, h)) (w ∙ ap (laid l k) (width-name e)) c
+
+  pub put-count : (p .tag ≡ 4 → ⊥) → {l l₁ : List ℕ} {k : ℕ} → Put (p .tag ≤ 3) k 8 (countWords (countOf n p) (countSpan t f from p)) l l₁ →
+      Put (p .tag ≤ 4) k 8 (countWords (widthOf t f n from word p) (countSpan t f from p)) l l₁
+  put-count e w = record { wrote = λ h. rw (width-count e) at (w .wrote (omega (arith, h, e))); spoilt = w .spoilt }
 
 -- a name's bytes and their span, then the width's span
 pub name-laid : (t : List ℕ) (f : Frame) (from word end : ℕ) (l : List ℕ) (k : ℕ) → k + 8 ≤ length l → {l₁ l₂ : List ℕ} →
@@ -320,7 +364,7 @@ module _ (t : List ℕ) (f : Frame) (start : ℕ) (x : TypeTold) where
 
 -- THE SPEC: its parts are laid one after another
 module _ (t : List ℕ) (f : Frame) (at n : ℕ) (x : SpecTold) (l : List ℕ) (k : ℕ) (room : k + 32 ≤ length l) where
-  pub spec-laid : {l₁ l₂ l₃ l₄ l₅ : List ℕ} → l₁ ≡ laid l k (fillWords (fillOf t f at (x .fill))) →
+  spec-laid : {l₁ l₂ l₃ l₄ l₅ : List ℕ} → l₁ ≡ laid l k (fillWords (fillOf t f at (x .fill))) →
       l₂ ≡ laid l₁ (k + 4) (four (alignOf (x .align)) (signOf (x .sign)) (bitOf (x .alternate)) (bitOf (x .zero))) →
       l₃ ≡ laid l₂ (k + 8) (countWords (widthOf t f n (x .from) (x .word) (x .width)) (countSpan t f (x .from) (x .width))) →
       l₄ ≡ laid l₃ (k + 16) (countWords (countOf n (x .precision)) (countSpan t f (x .width .end) (x .precision))) →
@@ -339,6 +383,25 @@ module _ (t : List ℕ) (f : Frame) (at n : ℕ) (x : SpecTold) (l : List ℕ) (
       let d = laying-on (countWords width widthspan) (k + 16) c w₃ (omega (arith, countWords-length width widthspan)) in
       let e = laying-on (countWords precision precisionspan) (k + 24) d w₄ (omega (arith, countWords-length precision precisionspan)) in
       laying-last e w₅
+
+  -- told or not, no more than its numbers are written
+  pub spec-put : {told : Type 0} → (told → (x .width .tag ≤ 4) × (x .precision .tag ≤ 3)) → {l₁ l₂ l₃ l₄ l₅ : List ℕ} → l₁ ≡ laid l k (fillWords (fillOf t f at (x .fill))) →
+      l₂ ≡ laid l₁ (k + 4) (four (alignOf (x .align)) (signOf (x .sign)) (bitOf (x .alternate)) (bitOf (x .zero))) →
+      Put (x .width .tag ≤ 4) (k + 8) 8 (countWords (widthOf t f n (x .from) (x .word) (x .width)) (countSpan t f (x .from) (x .width))) l₂ l₃ →
+      Put (x .precision .tag ≤ 3) (k + 16) 8 (countWords (countOf n (x .precision)) (countSpan t f (x .width .end) (x .precision))) l₃ l₄ →
+      l₅ ≡ laid l₄ (k + 24) (four (lowOf (x .precision .end)) (lowOf (x .typed .end)) 0 0 ++ spanWords 0 (typeSpan t f (x .precision .end) (x .typed))) →
+      length l₂ ≡ length l → length l₃ ≡ length l → length l₄ ≡ length l → Put told k 32 (specWords (specOf t f at n x)) l l₅
+  spec-put known {l₁} {l₂} {l₃} {l₄} {l₅} w₁ w₂ w₃ w₄ w₅ e₂ e₃ e₄ =
+      let fill = fillOf t f at (x .fill) in
+      let last = four (lowOf (x .precision .end)) (lowOf (x .typed .end)) 0 0 ++ spanWords 0 (typeSpan t f (x .precision .end) (x .typed)) in
+      let c : length last ≡ 8 = omega (arith, length-append (four (lowOf (x .precision .end)) (lowOf (x .typed .end)) 0 0) (spanWords 0 (typeSpan t f (x .precision .end) (x .typed))), spanWords-length 0 (typeSpan t f (x .precision .end) (x .typed))) in
+      let a = spoilt-two l k (fillWords fill) (four (alignOf (x .align)) (signOf (x .sign)) (bitOf (x .alternate)) (bitOf (x .zero))) (fillWords-length fill) refl (omega (arith, room)) w₁ w₂ in
+      let b : Spoilt k 32 l l₃ = spoilt-then a (omega arith) (omega arith) (w₃ .spoilt) (omega arith) (omega arith) e₂ in
+      let d : Spoilt k 32 l l₄ = spoilt-then b (omega arith) (omega arith) (w₄ .spoilt) (omega arith) (omega arith) e₃ in
+      record {
+        wrote = λ y. spec-laid w₁ w₂ (w₃ .wrote (known y .0)) (w₄ .wrote (known y .1)) w₅;
+        spoilt = spoilt-then d (omega arith) (omega arith) (spoilt-laid l₄ (k + 24) last (omega (arith, c, e₄, room)) w₅ c) (omega arith) (omega arith) e₄;
+      }
 
 -- THE WHOLE: the head, and then the spec
 head-length : (t : List ℕ) (f : Frame) (brace : ℕ) (x : PlaceholderTold) (n : ℕ) → length (toldHead t f brace x n) ≡ 8
@@ -388,12 +451,31 @@ module _ (t : List ℕ) (f : Frame) (brace : ℕ) (x : PlaceholderTold) (n : ℕ
       let d = laying-on (four (lowOf (x .to)) (lowOf (x .to)) 0 0) (k + 36) c w₃ (omega arith) in
       laying-last d w₄
 
-  pub told-laid : x .colon ≡ true → {l₁ l₂ : List ℕ} → l₁ ≡ laid l k (toldHead t f brace x (afterStar n (x .spec .precision))) →
-      l₂ ≡ laid l₁ (k + 8) (specWords (specOf t f (x .to + 1) n (x .spec))) → l₂ ≡ laid l k (argumentWords (argumentOf t f brace n x))
-  told-laid e w₁ w₂ =
-      let m = afterStar n (x .spec .precision) in
-      let head = toldHead t f brace x m in
-      let spec = specWords (specOf t f (x .to + 1) n (x .spec)) in
-      let h = head-length t f brace x m in
-      two-laid l k head spec (k + 8) (omega arith) (omega (arith, specWords-length (specOf t f (x .to + 1) n (x .spec)))) w₁ w₂
-      ∙ ap (laid l k) (told-whole t f brace x n e)
+-- THE WHOLE, told or not: all of its numbers, or some of them
+module _ (t : List ℕ) (f : Frame) (brace : ℕ) (x : PlaceholderTold) (n : ℕ) (l : List ℕ) (k : ℕ) (room : k + 40 ≤ length l) where
+  abbrev words : List ℕ
+  words = argumentWords (argumentOf t f brace n x)
+
+  put-whole : {l₁ : List ℕ} → l₁ ≡ laid l k words → Put (x .ok ≡ true) k 40 words l l₁
+  put-whole w = let c = argumentWords-length (argumentOf t f brace n x) in put-laid l k words (omega (arith, c, room)) w c
+
+  -- without a colon
+  pub bare-untold : x .ok ≡ false → Put (x .ok ≡ true) k 40 words l l
+  bare-untold o = record { wrote = λ y. absurd (true≢false (sym y ∙ o)); spoilt = record { gone = λ j ws p q r. refl } }
+
+  pub bare-told : x .colon ≡ false → {l₁ : List ℕ} → l₁ ≡ laid l k (toldHead t f brace x (afterStar n (x .spec .precision)) ++ specWords (noSpec (place (x .to)) (afterStar n (x .spec .precision)) .spec)) → Put (x .ok ≡ true) k 40 words l l₁
+  bare-told e w = put-whole (w ∙ ap (laid l k) (bare-whole t f brace x n e))
+
+  -- with one: the spec is written first
+  module _ (e : x .colon ≡ true) {told : Type 0} {l₁ : List ℕ} (w : Put told (k + 8) 32 (specWords (specOf t f (x .to + 1) n (x .spec))) l l₁) where
+    pub spec-untold : x .ok ≡ false → Put (x .ok ≡ true) k 40 words l l₁
+    spec-untold o = record { wrote = λ y. absurd (true≢false (sym y ∙ o)); spoilt = spoilt-wide (w .spoilt) (omega arith) (omega arith) }
+
+    pub spec-told : told → {l₂ : List ℕ} → l₂ ≡ laid l₁ k (toldHead t f brace x (afterStar n (x .spec .precision))) → Put (x .ok ≡ true) k 40 words l l₂
+    spec-told y w₂ =
+        let head = toldHead t f brace x (afterStar n (x .spec .precision)) in
+        let spec = specWords (specOf t f (x .to + 1) n (x .spec)) in
+        let h = head-length t f brace x (afterStar n (x .spec .precision)) in
+        let c = specWords-length (specOf t f (x .to + 1) n (x .spec)) in
+        let j : k + 8 ≡ k + length head = omega (arith, h) in
+        put-whole (w₂ ∙ rw (w .wrote y, j) (laid-before l k head spec (omega (arith, h, c, room))) ∙ ap (laid l k) (told-whole t f brace x n e))

@@ -169,7 +169,7 @@ module _ (t : List ℕ) (f : Frame) (brace : ℕ) (x : PlaceholderTold) where
   slots-missing e = ap (λ (b : Bool). words ++ pick b [] (missingTold t brace x)) e
 
   -- nothing is wrong
-  flawless-none : Flawless x → wrong (toldSlots t brace x) ≡ []
+  pub flawless-none : Flawless x → wrong (toldSlots t brace x) ≡ []
   unfolding toldSlots argumentSlots blanksOf blankFlaw wrong pick
   flawless-none p = rw (p .closed, p .placed, p .wide, p .typed)
 

@@ -1,5 +1,5 @@
 -- What is told, as it is written and noted, and a whole text. Rests on words' Layout, quick's Tellings, writing's StepsWritten and reading's Lists.
-use Prim.Native.Nat.{ℕ, _+_, _≤_}
+use Prim.Native.Nat.{ℕ, _+_, _*_, _≤_, _<_}
 use mathlib.Core.Path.{_≡_}
 use mathlib.Core.Bool.{true, false}
 use mathlib.Core.List.{List, [], _∷_, _++_}
@@ -17,20 +17,27 @@ use Rattle.placeholder.specs.Arguments.{resolved}
 use Rattle.placeholder.specs.declared.MaybeSpan.{MaybeSpan}
 use Rattle.placeholder.specs.declared.Place.{Place}
 use Rattle.closing.specs.Recovery.{gapAt}
-use Rattle.reading.specs.Faults.{gapFault, hintFault, argumentSlots}
-use Rattle.reading.specs.Lists.{pieces, found}
-use Rattle.reading.specs.Steps.{stateOf}
-use Rattle.reading.specs.Wants.{larger, placeWants, countWants}
+use Rattle.reading.specs.Faults.{gapFault, hintFault, argumentSlots, stepSlots, wrong}
+use Rattle.reading.specs.Lists.{gather, piecesOf, pieces, found}
+use Rattle.reading.specs.Steps.{stateOf, stepAt, onward}
+use Rattle.reading.specs.Wants.{larger, placeWants, countWants, wants}
 use Rattle.reading.specs.Written.{over}
+use Rattle.laws.specs.MoveLaws.{givenBy, given, stopOf}
 use Rattle.reading.specs.declared.Fault.{Fault}
+use Rattle.reading.specs.declared.Onward.{Onward}
+use Rattle.reading.specs.declared.Piece.{Piece}
 use Rattle.reading.specs.declared.State.{State}
-use Rattle.quick.specs.Tellings.{codeSeen, foundOf, countOf, afterStar, nextOf, blanksOf, placedHint}
+use Rattle.reading.specs.declared.Step.{Step}
+use Rattle.quick.specs.Tellings.{codeSeen, foundOf, countOf, afterStar, nextOf, argumentOf, blanksOf, placedHint, toldRead}
 use Rattle.quick.specs.declared.PartTold.{PartTold}
 use Rattle.quick.specs.declared.PlaceholderTold.{PlaceholderTold}
-use Rattle.words.specs.Layout.{headWords, placeTag, placeWords, countWords}
+use Rattle.words.specs.Laid.{laid}
+use Rattle.words.specs.Layout.{headWords, placeTag, placeWords, countWords, argumentWords, pieceWords}
 use Rattle.writing.specs.StepsWritten.{Noted, notedBy, notes}
 use Rattle.writing.specs.declared.Extent.{Extent}
 use Rattle.words.specs.Calls.{piecesIn}
+use Rattle.fills.specs.declared.lane.Passed.{Passed}
+use Rattle.fills.specs.declared.lane.Stopped.{Stopped}
 
 -- WHAT IS TOLD: its tags are the layout's, and it stands within the text
 pub record Sound (t : List ℕ) (x : PlaceholderTold) : Type 0 where
@@ -93,6 +100,66 @@ pub record Flawless (x : PlaceholderTold) : Type 0 where
   pub placed : x .place .blank ≡ false
   pub wide : x .spec .width .blank ≡ false
   pub typed : x .spec .typed .blank ≡ false
+
+-- NUMBERS WRITTEN OVER, so many from a place on: where others are laid over all of them, nothing of them is left
+pub record Spoilt (k n : ℕ) (old new : List ℕ) : Type 0 where
+  pub gone : (j : ℕ) (ws : List ℕ) → j ≤ k → k + n ≤ j + length ws → j + length ws ≤ length old → laid new j ws ≡ laid old j ws
+
+-- where something is told they are these
+pub record Put (told : Type 0) (k n : ℕ) (ws old new : List ℕ) : Type 0 where
+  pub wrote : told → new ≡ laid old k ws
+  pub spoilt : Spoilt k n old new
+
+-- THE STEP WHERE THE LANE STOPPED. What is told there is the placeholder of that step
+pub record Here (t : List ℕ) (f : Frame) (m : Mode) (s : State) (x : PlaceholderTold) : Type 0 where
+  pub within : x .ok ≡ true → s .at .0 < length t
+  pub step : x .ok ≡ true → Step.Placeholder (toldRead t f (s .at .0) (s .next) x) ≡ stepAt t f m s
+  pub reached : x .ok ≡ true → x .to ≤ length t
+
+-- and its piece is written; where none is told, the step's own piece is yet to be laid over what was tried
+pub record Tried (t : List ℕ) (f : Frame) (m : Mode) (s : State) (n : ℕ) (x : PlaceholderTold) (ps ps′ : List ℕ) : Type 0 where
+  pub wrote : x .ok ≡ true → ps′ ≡ laid ps (40 * n) (argumentWords (argumentOf t f (s .at .0) (s .next) x))
+  pub left : x .ok ≡ false →
+      laid ps′ (40 * n) (gather pieceWords (piecesOf (stepAt t f m s))) ≡ laid ps (40 * n) (gather pieceWords (piecesOf (stepAt t f m s)))
+
+-- A STEP THAT IS PASSED: nothing is wrong in it, it gives a piece, which is written, and reading goes on
+pub record Clear (t : List ℕ) (f : Frame) (m : Mode) (s s′ : State) : Type 0 where
+  pub clean : wrong (stepSlots (stepAt t f m s)) ≡ []
+  pub goes : onward s (stepAt t f m s) ≡ Onward.To s′
+  pub one : length (piecesOf (stepAt t f m s)) ≡ 1
+
+pub record PassedBy (t : List ℕ) (f : Frame) (s : State) (n : ℕ) (ps : List ℕ) (r : Passed) (ps′ : List ℕ) : Type 0 where
+  pub clear : r .on ≡ true → Clear t f Mode.Format s (r .state)
+  pub wrote : r .on ≡ true → ps′ ≡ laid ps (40 * n) (gather pieceWords (piecesOf (stepAt t f Mode.Format s)))
+  pub given : r .on ≡ true → r .told .spec .given ≡ givenBy (stepAt t f Mode.Format s)
+  pub here : r .on ≡ false → Here t f Mode.Format s (r .told)
+  pub tried : r .on ≡ false → Tried t f Mode.Format s n (r .told) ps ps′
+
+-- SUCH STEPS ONE AFTER ANOTHER, from a state to another: the pieces that they give, and how much they give back
+pub data Way (t : List ℕ) (f : Frame) (m : Mode) (s : State) : List Piece → ℕ → State → Type 0 where
+  none : Way t f m s [] 0 s
+  more : {xs : List Piece} {h : ℕ} {a b : State} → Way t f m s xs h a → Clear t f m a b →
+      Way t f m s (xs ++ piecesOf (stepAt t f m a)) (h + givenBy (stepAt t f m a)) b
+
+-- wherever they lead there is room for the piece of the step there, and the figures are small
+pub record LaneRoom (t : List ℕ) (f : Frame) (m : Mode) (s : State) (n : ℕ) (ps : List ℕ) : Type 0 where
+  pub pieces : {xs : List Piece} {g : ℕ} {a : State} → Way t f m s xs g a → 40 * (n + length xs + length (piecesOf (stepAt t f m a))) ≤ length ps
+  pub next : {xs : List Piece} {g : ℕ} {a : State} → Way t f m s xs g a → a .next < 0xFFFFE
+  pub given : {xs : List Piece} {g : ℕ} {a : State} → Way t f m s xs g a → g + givenBy (stepAt t f m a) ≤ 0xFFFFFFFFFFFF
+
+-- the lane: their pieces are written, and it stopped at the step after them
+pub record LaneRan (t : List ℕ) (f : Frame) (m : Mode) (s : State) (n : ℕ) (ps : List ℕ) (r : Stopped) (ps′ : List ℕ) : Type 0 where
+  pub passed : List Piece
+  pub way : Way t f m s passed (r .given) (r .state)
+  pub count : r .pieces ≡ n + length passed
+  pub here : Here t f m (r .state) (r .told)
+  pub tried : Tried t f m (r .state) (r .pieces) (r .told) (laid ps (40 * n) (gather pieceWords passed)) ps′
+
+-- THE FIGURES OF A READING: how many arguments its pieces want, how much was given back, and where it stopped
+pub record Figures (t : List ℕ) (f : Frame) (m : Mode) (arguments back stop : ℕ) : Type 0 where
+  pub wanted : arguments ≡ wants (pieces t f m)
+  pub gave : back ≡ given t f m
+  pub stopped : stop ≡ stopOf t f m
 
 -- A WHOLE TEXT: all pieces, and the records as they are noted one after the other, with room before them for some of the front
 abbrev pub fresh : ℕ → List ℕ → Noted

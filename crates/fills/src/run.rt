@@ -1,5 +1,6 @@
 // A text's pieces and error records, written over the first numbers of two lent lists.
-use crate::step::write_next;
+use crate::lane::lane_in;
+use crate::lane::write_left;
 use frame::Frame;
 use frame::Mode;
 use frame::TextPlace;
@@ -10,21 +11,24 @@ ghost use Prim.Native.Nat.{_*_, _≤_};
 ghost use lib.ListN.{length};
 ghost use Rattle.frame.specs.Bounds.{Small};
 ghost use Rattle.reading.specs.Lists.{pieces as piecesOf, errors as errorsOf, found, frontOnly};
-ghost use Rattle.reading.specs.Wants.{wants};
 ghost use Rattle.fills.specs.Filling.{Fills};
-ghost use Rattle.fills.specs.Lane.{Ran};
+ghost use Rattle.fills.specs.Lane.{Figures, Ran};
 
-// How many pieces and error records a text has, and how many arguments the pieces want.
+// How many pieces and error records a text has, how many arguments the pieces want, how many characters were given back, and where reading stopped.
 pub struct Filled {
     pub pieces: usize,
     pub errors: usize,
     pub arguments: usize,
+    pub given: usize,
+    pub stop: usize,
 }
 
-// What a run wrote, and how many arguments its pieces want.
+// What a run wrote, and the same figures.
 pub struct Written {
     pub extent: Extent,
     pub arguments: usize,
+    pub given: usize,
+    pub stop: usize,
 }
 
 // Writes both lists. Where `fronts` is how many records go to the front, each record goes to its own place at once; where it is 0, those of the
@@ -38,7 +42,7 @@ fn run(
     errors: &mut [u32],
 ) -> Written
     requires { ⌜ Small (now text) frame × (40 * length (piecesOf (now text) frame mode) ≤ length (now pieces)) × (16 * length (errorsOf (now text) frame mode) ≤ length (now errors)) × (fronts ≤ length (frontOnly (found (now text) frame mode))) ⌝ }
-    ensures { λ r. ⌜ Ran (now (text .entry)) frame mode fronts (now (pieces .entry)) (now (errors .entry)) (r .extent) (now (pieces .exit)) (now (errors .exit)) × (r .arguments ≡ wants (piecesOf (now (text .entry)) frame mode)) ⌝ }
+    ensures { λ r. ⌜ Ran (now (text .entry)) frame mode fronts (now (pieces .entry)) (now (errors .entry)) (r .extent) (now (pieces .exit)) (now (errors .exit)) × Figures (now (text .entry)) frame mode (r .arguments) (r .given) (r .stop) ⌝ }
 {
     let mut state = State {
         at: TextPlace(0),
@@ -51,26 +55,42 @@ fn run(
         high: fronts,
         fronts: 0,
     };
-    let mut left = text.len() + 1;
-    while 0 < left {
-        let step = write_next(text, frame, mode, state, &mut *pieces, &mut *errors, extent);
+    let mut given = 0;
+    loop {
+        let stopped = lane_in(text, frame, mode, state, extent.pieces, &mut *pieces);
+        let reached = stopped.state;
+        let told = stopped.told;
+        let so_far = Extent {
+            pieces: stopped.pieces,
+            low: extent.low,
+            high: extent.high,
+            fronts: extent.fronts,
+        };
+        let step = write_left(
+            text,
+            frame,
+            mode,
+            reached,
+            told,
+            &mut *pieces,
+            &mut *errors,
+            so_far,
+        );
         extent = step.extent;
+        given = given + stopped.given + step.given;
         if !step.more {
             return Written {
                 extent,
-                arguments: state.arguments,
+                arguments: reached.arguments,
+                given,
+                stop: reached.at.0,
             };
         }
         state = step.state;
-        left -= 1;
-    }
-    Written {
-        extent,
-        arguments: state.arguments,
     }
 }
 
-// The pieces and the error records of a text, how many there are, and how many arguments the pieces want. A text without records of the front is read once.
+// The pieces and the error records of a text, how many there are, and the figures of its reading. A text without records of the front is read once.
 pub fn fill(text: &[u8], frame: Frame, mode: Mode, pieces: &mut [u32], errors: &mut [u32]) -> Filled
     requires { ⌜ Small (now text) frame × (40 * length (piecesOf (now text) frame mode) ≤ length (now pieces)) × (16 * length (errorsOf (now text) frame mode) ≤ length (now errors)) ⌝ }
     ensures { λ r. ⌜ Fills (now (text .entry)) frame mode (now (pieces .entry)) (now (pieces .exit)) (now (errors .entry)) (now (errors .exit)) r ⌝ }
@@ -83,5 +103,7 @@ pub fn fill(text: &[u8], frame: Frame, mode: Mode, pieces: &mut [u32], errors: &
         pieces: first.extent.pieces,
         errors: first.extent.fronts + first.extent.high,
         arguments: first.arguments,
+        given: first.given,
+        stop: first.stop,
     }
 }

@@ -1,29 +1,20 @@
-// One step of a reading: its piece and its error records, written.
+// What is told of a placeholder, written: its parts, and the records of what is wrong in it.
 use closing::recover::Hint;
 use frame::Frame;
-use frame::Mode;
 use frame::Span;
 use frame::TextPlace;
 use quick::PartTold;
 use quick::PlaceholderTold;
 use quick::SignHint;
-use quick::SpecTold;
 use quick::TypeTold;
 use reading::State;
 use steps::wants::larger_of;
-use words::align_word;
-use words::bit;
 use words::low;
 use words::put_bare_error;
-use words::put_literal;
 use words::put_zeros;
 use words::put4;
-use words::sign_word;
 use writing::Extent;
-use writing::StepWritten;
-use writing::one_more;
 use writing::put_fault;
-use writing::write_step;
 ghost use mathlib.Core.Path.{_≡_};
 ghost use mathlib.Core.Bool.{true, false};
 ghost use mathlib.Core.List.{[], _∷_, _++_};
@@ -36,13 +27,12 @@ ghost use Rattle.frame.specs.Places.{place as placeAt};
 ghost use Rattle.frame.specs.Bounds.{Small};
 ghost use Rattle.placeholder.specs.Specs.{noSpec};
 ghost use Rattle.reading.specs.Faults.{flawFault, argumentSlots};
-ghost use Rattle.reading.specs.Steps.{stepAt};
 ghost use Rattle.reading.specs.Wants.{larger, countWants};
-ghost use Rattle.quick.specs.Tellings.{codeSeen, fillOf, countOf, widthOf, countSpan, typeSpan, afterStar, specOf, argumentOf, blankFlaw, blanksOf, placedHint};
+ghost use Rattle.quick.specs.Tellings.{codeSeen, fillOf, countOf, widthOf, countSpan, typeSpan, afterStar, blankFlaw, blanksOf, placedHint};
 ghost use Rattle.words.specs.Laid.{laid};
-ghost use Rattle.words.specs.Layout.{lowOf, four, placeWords, fillWords, spanWords, countWords, specWords, argumentWords};
-ghost use Rattle.writing.specs.StepsWritten.{notedBy, noticed, Room, Notes, BackRoom, BackNotes, StepRoom, SteppedOn};
-ghost use Rattle.fills.specs.Lane.{Sound, placeOf, toldHead, nameWords, widthWants, withCounts, toldState, Flawless, whyTold, missingTold, toldSlots};
+ghost use Rattle.words.specs.Layout.{lowOf, four, placeWords, fillWords, spanWords, countWords, specWords};
+ghost use Rattle.writing.specs.StepsWritten.{notedBy, noticed, Room, Notes, BackRoom, BackNotes};
+ghost use Rattle.fills.specs.Lane.{Put, Sound, placeOf, toldHead, nameWords, widthWants, withCounts, toldState, Flawless, whyTold, missingTold, toldSlots};
 
 // The place of what is told, which starts at `at`.
 fn put_told_place(out: &mut [u32], k: usize, place: PartTold, at: usize, next: usize, span: Span)
@@ -63,7 +53,7 @@ fn put_told_place(out: &mut [u32], k: usize, place: PartTold, at: usize, next: u
 }
 
 // The first eight numbers of what is told: its range, its place and the place's span.
-fn put_told_head(
+pub fn put_told_head(
     out: &mut [u32],
     k: usize,
     text: &[u8],
@@ -82,7 +72,7 @@ fn put_told_head(
 }
 
 // What is told without a colon, as the n-th piece.
-fn put_bare(
+pub fn put_bare(
     out: &mut [u32],
     n: usize,
     text: &[u8],
@@ -103,7 +93,7 @@ fn put_bare(
 }
 
 // The fill between two places; none where they are the same.
-fn put_told_fill(out: &mut [u32], k: usize, text: &[u8], frame: Frame, at: usize, past: usize)
+pub fn put_told_fill(out: &mut [u32], k: usize, text: &[u8], frame: Frame, at: usize, past: usize)
     requires { ⌜ Small (now text) frame × (k + 4 ≤ length (now out)) ⌝ }
     ensures { λ _. ⌜ now (out .exit) ≡ laid (now (out .entry)) k (fillWords (fillOf (now (text .entry)) frame at past)) ⌝ }
 {
@@ -169,7 +159,7 @@ fn put_told_name(
 }
 
 // The width of a spec.
-fn put_told_width(
+pub fn put_told_width(
     out: &mut [u32],
     k: usize,
     text: &[u8],
@@ -179,8 +169,8 @@ fn put_told_width(
     part: PartTold,
     next: usize,
 )
-    requires { ⌜ Small (now text) frame × (part .tag ≤ 4) × (k + 8 ≤ length (now out)) ⌝ }
-    ensures { λ _. ⌜ now (out .exit) ≡ laid (now (out .entry)) k (countWords (widthOf (now (text .entry)) frame next from word part) (countSpan (now (text .entry)) frame from part)) ⌝ }
+    requires { ⌜ Small (now text) frame × (k + 8 ≤ length (now out)) ⌝ }
+    ensures { λ _. ⌜ Put (part .tag ≤ 4) k 8 (countWords (widthOf (now (text .entry)) frame next from word part) (countSpan (now (text .entry)) frame from part)) (now (out .entry)) (now (out .exit)) ⌝ }
 {
     if part.tag == 4 {
         put_told_name(out, k, text, frame, from, word, part.end);
@@ -190,7 +180,7 @@ fn put_told_width(
 }
 
 // A count that starts at `from`.
-fn put_told_count(
+pub fn put_told_count(
     out: &mut [u32],
     k: usize,
     text: &[u8],
@@ -199,8 +189,8 @@ fn put_told_count(
     part: PartTold,
     next: usize,
 )
-    requires { ⌜ Small (now text) frame × (part .tag ≤ 3) × (k + 8 ≤ length (now out)) ⌝ }
-    ensures { λ _. ⌜ now (out .exit) ≡ laid (now (out .entry)) k (countWords (countOf next part) (countSpan (now (text .entry)) frame from part)) ⌝ }
+    requires { ⌜ Small (now text) frame × (k + 8 ≤ length (now out)) ⌝ }
+    ensures { λ _. ⌜ Put (part .tag ≤ 3) k 8 (countWords (countOf next part) (countSpan (now (text .entry)) frame from part)) (now (out .entry)) (now (out .exit)) ⌝ }
 {
     if part.tag == 0 {
         put4(&mut *out, k, 0, 0, 0, 0);
@@ -213,7 +203,7 @@ fn put_told_count(
 }
 
 // A type that starts at `start`.
-fn put_told_type(
+pub fn put_told_type(
     out: &mut [u32],
     k: usize,
     text: &[u8],
@@ -233,49 +223,8 @@ fn put_told_type(
     put4(out, k + 4, 0, 0, 0, 0);
 }
 
-// The spec that starts at `at`, after its colon.
-fn put_told_spec(
-    out: &mut [u32],
-    k: usize,
-    text: &[u8],
-    frame: Frame,
-    at: usize,
-    spec: SpecTold,
-    next: usize,
-)
-    requires { ⌜ Small (now text) frame × (spec .width .tag ≤ 4) × (spec .precision .tag ≤ 3) × (k + 32 ≤ length (now out)) ⌝ }
-    ensures { λ _. ⌜ now (out .exit) ≡ laid (now (out .entry)) k (specWords (specOf (now (text .entry)) frame at next spec)) ⌝ }
-{
-    let align = spec.align;
-    let sign = spec.sign;
-    let width = spec.width;
-    let precision = spec.precision;
-    let typed = spec.typed;
-    put_told_fill(&mut *out, k, text, frame, at, spec.fill);
-    put4(
-        &mut *out,
-        k + 4,
-        align_word(align),
-        sign_word(sign),
-        bit(spec.alternate),
-        bit(spec.zero),
-    );
-    put_told_width(
-        &mut *out,
-        k + 8,
-        text,
-        frame,
-        spec.from,
-        spec.word,
-        width,
-        next,
-    );
-    put_told_count(&mut *out, k + 16, text, frame, width.end, precision, next);
-    put_told_type(out, k + 24, text, frame, precision.end, typed);
-}
-
 // The next argument's number after a star.
-fn after_star(part: PartTold, next: usize) -> usize
+pub fn after_star(part: PartTold, next: usize) -> usize
     requires { ⌜ next < 0xFFFFE ⌝ }
     ensures { λ r. ⌜ r ≡ afterStar next part ⌝ }
 {
@@ -332,7 +281,7 @@ fn with_counts(told: PlaceholderTold, next: usize, figure: usize) -> usize
 }
 
 // Where reading stands after what is told: a star takes an argument's number, and then a place that is not written.
-fn after_told(state: State, told: PlaceholderTold) -> State
+pub fn after_told(state: State, told: PlaceholderTold) -> State
     requires { ⌜ state .next < 0xFFFFE ⌝ }
     ensures { λ r. ⌜ r ≡ toldState state told ⌝ }
 {
@@ -363,30 +312,6 @@ fn after_told(state: State, told: PlaceholderTold) -> State
         next: after,
         arguments: figure,
     }
-}
-
-// What is told, as the n-th piece.
-fn put_told(
-    out: &mut [u32],
-    n: usize,
-    text: &[u8],
-    frame: Frame,
-    brace: usize,
-    told: PlaceholderTold,
-    next: usize,
-)
-    requires { ⌜ Small (now text) frame × Sound (now text) told × (brace < 65535) × (next < 0xFFFFE) × (40 * n + 40 ≤ length (now out)) ⌝ }
-    ensures { λ _. ⌜ now (out .exit) ≡ laid (now (out .entry)) (40 * n) (argumentWords (argumentOf (now (text .entry)) frame brace next told)) ⌝ }
-{
-    let spec = told.spec;
-    let after = after_star(spec.precision, next);
-    if !told.colon {
-        put_bare(out, n, text, frame, brace, told, after);
-        return;
-    }
-    let k = 40 * n;
-    put_told_head(&mut *out, k, text, frame, brace, told, after);
-    put_told_spec(out, k + 8, text, frame, told.to + 1, spec, next);
 }
 
 // The record of the word `_` from one byte to another, where it stands there, and where the records then end.
@@ -519,7 +444,7 @@ fn put_missing(
 }
 
 // Whether nothing is wrong in what is told: most of it.
-fn is_flawless(told: PlaceholderTold) -> bool
+pub fn is_flawless(told: PlaceholderTold) -> bool
     ensures { λ r. ⌜ (r ≡ true → Flawless told) ⌝ }
 {
     let place = told.place;
@@ -539,7 +464,7 @@ fn is_flawless(told: PlaceholderTold) -> bool
 }
 
 // The records of what is wrong in what is told.
-fn put_wrongs(
+pub fn put_wrongs(
     text: &[u8],
     frame: Frame,
     brace: usize,
@@ -572,81 +497,4 @@ fn put_wrongs(
         return after;
     }
     put_missing(text, frame, brace, told, errors, after)
-}
-
-// The step where reading stands, written.
-pub fn write_next(
-    text: &[u8],
-    frame: Frame,
-    mode: Mode,
-    state: State,
-    pieces: &mut [u32],
-    errors: &mut [u32],
-    extent: Extent,
-) -> StepWritten
-    requires { ⌜ Small (now text) frame × (state .next < 0xFFFFE) × StepRoom (stepAt (now text) frame mode state) extent (now pieces) (now errors) ⌝ }
-    ensures { λ r. ⌜ SteppedOn (now (text .entry)) frame mode state extent (now (pieces .entry)) (now (errors .entry)) r (now (pieces .exit)) (now (errors .exit)) ⌝ }
-{
-    let at = state.at;
-    let i = at.0;
-    if text.len() <= i {
-        return StepWritten {
-            more: false,
-            state,
-            extent,
-        };
-    }
-    let b = text[i];
-    if b == b'{' {
-        return write_brace(text, frame, mode, state, pieces, errors, extent);
-    }
-    if b == b'}' {
-        return write_step(text, frame, mode, state, pieces, errors, extent);
-    }
-    let end = scan::string_end(text, at);
-    put_literal(pieces, extent.pieces, i, end.0);
-    StepWritten {
-        more: true,
-        state: State {
-            at: end,
-            next: state.next,
-            arguments: state.arguments,
-        },
-        extent: one_more(extent),
-    }
-}
-
-// The step at an opening brace: the quick lane tells most.
-fn write_brace(
-    text: &[u8],
-    frame: Frame,
-    mode: Mode,
-    state: State,
-    pieces: &mut [u32],
-    errors: &mut [u32],
-    extent: Extent,
-) -> StepWritten
-    requires { ⌜ Small (now text) frame × (state .next < 0xFFFFE) × StepRoom (stepAt (now text) frame mode state) extent (now pieces) (now errors) × (getD (now text) (state .at .0) 0 ≡ 0x7B) × (state .at .0 < length (now text)) ⌝ }
-    ensures { λ r. ⌜ SteppedOn (now (text .entry)) frame mode state extent (now (pieces .entry)) (now (errors .entry)) r (now (pieces .exit)) (now (errors .exit)) ⌝ }
-{
-    match mode {
-        Mode::Format => {
-            let i = state.at.0;
-            if utf8::byte(text, i + 1) == b'{' {
-                return write_step(text, frame, mode, state, pieces, errors, extent);
-            }
-            let told = quick::tell(text, i + 1);
-            if told.ok {
-                put_told(pieces, extent.pieces, text, frame, i, told, state.next);
-                return StepWritten {
-                    more: true,
-                    state: after_told(state, told),
-                    extent: one_more(put_wrongs(text, frame, i, told, errors, extent)),
-                };
-            }
-            write_step(text, frame, mode, state, pieces, errors, extent)
-        }
-        Mode::InlineAsm => write_step(text, frame, mode, state, pieces, errors, extent),
-        Mode::Diagnostic => write_step(text, frame, mode, state, pieces, errors, extent),
-    }
 }

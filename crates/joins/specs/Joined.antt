@@ -92,11 +92,11 @@ pub record Clean (t : List ℕ) (q : Request) (xs : List Piece) : Type 0 where
 -- What holds of the joined text's call: its answer r, and its list of pieces before (rs) and after (rs′). (R12.7)
 pub record JoinedCall (t u : List ℕ) (ps qs rs rs′ : List Piece) (r : Answer) : Type 0 where
   -- no error is counted, nor an argument place or a line; 6 is answered where the list has no room for the pieces, else 0, with how many arguments
-  -- they want (`join-wants` of Wanting: the larger of what both want, the second's raised)
+  -- they want (`join-wants` of Wanting: the larger of what both want, the second's raised); of the moves nothing is said here
   pub answer :
       let all = join t u ps qs in
       let short = ltb (length rs) (length all) in
-      r ≡ answered (pick short 6 0) 0 (piecesOnly (length all)) (pick short 0 (wants all))
+      r ≡ answered (pick short 6 0) 0 (piecesOnly (length all)) (pick short 0 (wants all)) (r .moves)
   -- done, the list holds the pieces
   pub the-pieces : r .number ≡ 0 → take (length (join t u ps qs)) rs′ ≡ join t u ps qs
 
@@ -112,8 +112,9 @@ onward {t} {u} {s} {q} {ps} {qs} f v e h i y g l p k =
     let z = no-errors (y .call) (y .done) (y .no-error) in
     let b = joined m t u f (frameFor u (y .snippet) q) j v w i (one-quote u (t ++ u) (y .snippet) s q q refl) e z p in
     let c : pieces (t ++ u) j m ≡ join t u ps qs = rw (← (y .holds), held-pieces (y .call) (y .done), ← h) (b .the-pieces) in
+    let a = k .answer ∙ joined-answer t u s (y .snippet) q _ _ _ (well-append v w) l g (is-done (y .call) (y .done)) c (b .clean) in
     record {
-      answer = k .answer ∙ joined-answer t u s (y .snippet) q _ _ _ (well-append v w) l g (is-done (y .call) (y .done)) c (b .clean);
+      answer = a ∙ ap (answered _ _ _ _) (sym (ap (λ (x : Answer). x .moves) a));
       the-pieces = λ d. rw c at (held-first k d);
     }
 

@@ -4,6 +4,7 @@ pub mod WalkLaws
 pub mod Numbered
 pub mod WantLaws
 pub mod StateLaws
+pub mod MoveLaws
 pub mod FaultLaws
 pub mod RecordLaws
 pub mod LineLaws

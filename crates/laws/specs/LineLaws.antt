@@ -1,46 +1,26 @@
--- Laws of lines: the characters of a part of the text one by one, and lines, newlines and line starts over joined text.
+-- Laws of lines: lines, newlines and line starts over joined text.
 -- Rests on Lines and on `utf8`'s laws of characters.
-use Prim.Native.Nat.{ℕ, suc, _+_, _≤_, _<_}
+use Prim.Native.Nat.{ℕ, suc, _+_, _<_}
 use mathlib.Core.Path.{_≡_, refl, ap}
 use mathlib.Core.Bool.{Bool, true, false}
 use mathlib.Core.List.{List, [], _∷_, _++_}
 use native.Mathlib.Omega.{arith}
-use borrow.Author.Tests.{lt-ltb, le-ltb, eq-eqb, ne-eqb}
+use borrow.Author.Tests.{eq-eqb, ne-eqb}
 use lib.ListN.{length}
 use Rattle.utf8.specs.Choice.{pick}
 use Rattle.utf8.specs.Utf8.{peekAt}
-use Rattle.utf8.specs.Chars.{Ch, ch, charsFrom}
-use Rattle.utf8.specs.CharLaws.{peeked, ended, first}
-use Rattle.utf8.specs.declared.Seen.the-variants.{Char, End}
+use Rattle.utf8.specs.Chars.{Ch, charsFrom, before}
+use Rattle.utf8.specs.CharLaws.{before-more}
+use Rattle.utf8.specs.declared.Seen.the-variants.{Char}
 use Rattle.frame.specs.Places.{spanOf}
 use Rattle.frame.specs.declared.SnippetPlace.{SnippetPlace}
 use Rattle.frame.specs.declared.Frame.{Frame}
-use Rattle.reading.specs.Lines.{before, isNewline, newlines, chStart, lineAfter, endedLines, lineStart}
+use Rattle.reading.specs.Lines.{isNewline, newlines, chStart, lineAfter, endedLines, lineStart}
 
 -- what holds whether a test holds or not
 pub by-test : (P : Bool → Type 0) → P true → P false → (b : Bool) → P b
 by-test P holds fails true = holds
 by-test P holds fails false = fails
-
-module _ (t : List ℕ) (e i : ℕ) where
-  -- a character that is seen before byte e is the first of those before it
-  pub before-more : {c w : ℕ} → i < e → peekAt t i ≡ Char c w → before e (charsFrom t i) ≡ ch c i w ∷ before e (charsFrom t (i + w))
-  unfolding before pick
-  before-more l p = rw (peeked t i p .list, lt-ltb i e l)
-
-  -- from byte e on none stands before it
-  pub before-past : e ≤ i → before e (charsFrom t i) ≡ []
-  unfolding before pick
-  before-past l = go (charsFrom t i) refl
-    where
-      go : (cs : List Ch) → charsFrom t i ≡ cs → before e cs ≡ []
-      go [] d = refl
-      go (c ∷ cs) d = let p = first t i c cs d .place in rw (le-ltb (c .at) e (omega arith))
-
-  -- at the end of the text there is none
-  pub before-end : peekAt t i ≡ End → before e (charsFrom t i) ≡ []
-  unfolding before
-  before-end p = rw (ended t i p)
 
 -- newlines, one character at a time
 pub newlines-more : (c : Ch) (cs : List Ch) → newlines (c ∷ cs) ≡ pick (isNewline c) 1 0 + newlines cs

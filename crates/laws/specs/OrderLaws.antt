@@ -1,5 +1,5 @@
 -- The literal text of a reading stands in order: each character ends before the next starts. So each line starts before the next, and
--- the last line is none of those before it. Rests on Lists, StepLaws and LineLaws, and on the laws of where `scan` and `placeholder` stop.
+-- the last line is none of those before it. Rests on Lists and StepLaws, and on the laws of where `scan` and `placeholder` stop.
 use Prim.Native.Nat.{ℕ, zero, suc, _+_, _≤_, _<_}
 use mathlib.Core.Path.{_≡_, refl, sym, _∙_, ap, subst}
 use mathlib.Core.Bool.{Bool, true, false, true≢false}
@@ -11,8 +11,8 @@ use lib.Dec.{eqb}
 use lib.ListN.{length, getD}
 use Rattle.utf8.specs.Choice.{pick}
 use Rattle.utf8.specs.ChoiceLaws.{pick-elim, both-left}
-use Rattle.utf8.specs.Chars.{Ch, charsFrom, takeWhile, dropWhile, bytes, runEnd}
-use Rattle.utf8.specs.CharLaws.{peeked, first, run-split}
+use Rattle.utf8.specs.Chars.{Ch, charsFrom, before, takeWhile, dropWhile, bytes, runEnd}
+use Rattle.utf8.specs.CharLaws.{peeked, first, before-past, before-more, run-split}
 use Rattle.frame.specs.Places.{snippet, rangeOf, spanOf}
 use Rattle.frame.specs.declared.TextPlace.{TextPlace}
 use Rattle.frame.specs.Spans.{toSnippet}
@@ -37,8 +37,7 @@ use Rattle.closing.specs.declared.recover.Recovery.{Recovery}
 use Rattle.closing.specs.declared.whole.PlaceholderRead.{PlaceholderRead}
 use Rattle.reading.specs.Steps.{afterOpen, afterClose, stepAt, onward, start, reading}
 use Rattle.laws.specs.StepLaws.{step-later, Run, reading-run}
-use Rattle.reading.specs.Lines.{before, charsIn, isNewline, chStart, cut, lineAfter, endedLines, lineStart}
-use Rattle.laws.specs.LineLaws.{before-past, before-more}
+use Rattle.reading.specs.Lines.{charsIn, isNewline, chStart, cut, lineAfter, endedLines, lineStart}
 use Rattle.reading.specs.Lists.{gather, textsOf, literalChars, toTheEnd, sameSpan, isLast, linesIn, lines}
 use Rattle.laws.specs.ListLaws.{literal-more, literal-none, plainLines}
 use Rattle.reading.specs.declared.State.{State}

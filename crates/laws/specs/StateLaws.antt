@@ -16,7 +16,7 @@ use Rattle.reading.specs.declared.Onward.{Onward}
 use Rattle.laws.specs.WantLaws.{larger-none, larger-first, larger-assoc, wants-append}
 
 -- where reading stands next; where it is over, where it stood
-abbrev standing : (State → State) → State → Onward → State
+abbrev pub standing : (State → State) → State → Onward → State
 standing more s Onward.Over = s
 standing more s (Onward.To s′) = more s′
 

@@ -37,6 +37,7 @@ joined from to po sp re =
             precision = sp .precision;
             typetext = sp .typetext;
           };
+      given = sp .given;
     }
 
 -- "A place is counted after its spec, so a star comes first." Choice 3: "whitespace before a colon, or with no colon, belongs to the place" (R5.6, R4.15)

@@ -1,5 +1,5 @@
 -- The whole Format spec after its colon: its parts one after the other.
-use Prim.Native.Nat.{ℕ}
+use Prim.Native.Nat.{ℕ, _+_}
 use Prim.Native.Char.{code}
 use mathlib.Core.List.{List}
 use Rattle.frame.specs.declared.TextPlace.{TextPlace}
@@ -40,6 +40,7 @@ gathered fi al si ha wi pr ty =
       width = wi .flaw;
       precision = pr .flaw;
       typetext = ty .flaw;
+      given = wi .given + pr .given;
     }
 
 -- "fill and align; sign `+` `-`; `#`; `0`; width; `.` with precision; type" (R4.6, R5.9)

@@ -81,6 +81,7 @@ widthAfter t f zero at r =
       span = pick (isImplied (r .count)) MaybeSpan.Absent (MaybeSpan.Present (spanBetween t f at (r .at)));
       at = r .at;
       flaw = r .flaw;
+      given = r .given;
     }
 
 -- (R5.11, R6.8)
@@ -96,6 +97,7 @@ zeroArgument span at =
       span = MaybeSpan.Present span;
       at = at;
       flaw = Flaw.Clean;
+      given = 0;
     }
 
 -- choice 2: "a `0` at the flag's place is the flag unless `$` follows directly; then `0$` is the width" (R4.14, R5.11, R6.8)
@@ -108,24 +110,25 @@ widthRead t f at =
     (plainWidth t f false at)
 
 -- a precision's span starts at its dot
-abbrev pub precise : List ℕ → Frame → TextPlace → Count → TextPlace → ℕ → Flaw → PrecisionRead
-precise t f dot count at n x =
+abbrev pub precise : List ℕ → Frame → TextPlace → Count → TextPlace → ℕ → Flaw → ℕ → PrecisionRead
+precise t f dot count at n x given =
     record {
       precision = count;
       span = MaybeSpan.Present (spanBetween t f dot at);
       at = at;
       next = n;
       flaw = x;
+      given = given;
     }
 
 abbrev pub preciseCount : List ℕ → Frame → TextPlace → ℕ → CountRead → PrecisionRead
-preciseCount t f dot n r = precise t f dot (r .count) (r .at) n (r .flaw)
+preciseCount t f dot n r = precise t f dot (r .count) (r .at) n (r .flaw) (r .given)
 
 -- "Precision is the same, or `*`, or nothing." A star takes the next argument. (R5.12, R5.6, R6.8)
 unfoldable pub afterDot : List ℕ → Frame → TextPlace → TextPlace → ℕ → PrecisionRead
 afterDot t f dot at n =
     let star = consumed t at (code "*") in
-    pick (star .ate) (precise t f dot (Count.ByStar n) (star .at) (n + 1) Flaw.Clean) (preciseCount t f dot n (countRead t f at))
+    pick (star .ate) (precise t f dot (Count.ByStar n) (star .at) (n + 1) Flaw.Clean 0) (preciseCount t f dot n (countRead t f at))
 
 -- (R5.12)
 unfoldable pub precisionRead : List ℕ → Frame → TextPlace → ℕ → PrecisionRead
@@ -138,4 +141,5 @@ precisionRead t f at n =
       at = at;
       next = n;
       flaw = Flaw.Clean;
+      given = 0;
     })

@@ -46,6 +46,7 @@ typeOnly ty n =
       width = Flaw.Clean;
       precision = Flaw.Clean;
       typetext = ty .flaw;
+      given = 0;
     }
 
 -- no colon, no spec: the type is empty where reading stood (R5.8)

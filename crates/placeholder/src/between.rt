@@ -26,6 +26,8 @@ pub struct ArgumentRead {
     pub at: TextPlace,
     pub next: usize,
     pub flaws: ArgumentFlaws,
+    // How many characters its counts gave back.
+    pub given: usize,
 }
 
 // A place that is not written takes the next argument.
@@ -84,5 +86,6 @@ pub fn argument(text: &[u8], frame: Frame, mode: Mode, at: TextPlace, next: usiz
         at: past,
         next: counted.next,
         flaws,
+        given: read.given,
     }
 }

@@ -40,6 +40,7 @@ pub struct WidthRead {
     pub span: MaybeSpan,
     pub at: TextPlace,
     pub flaw: Flaw,
+    pub given: usize,
 }
 
 pub struct PrecisionRead {
@@ -48,6 +49,7 @@ pub struct PrecisionRead {
     pub at: TextPlace,
     pub next: usize,
     pub flaw: Flaw,
+    pub given: usize,
 }
 
 pub struct TypeRead {
@@ -58,7 +60,7 @@ pub struct TypeRead {
     pub flaw: Flaw,
 }
 
-// A spec, where reading stands after it, the next argument's number, and what its parts found wrong.
+// A spec, where reading stands after it, the next argument's number, what its parts found wrong, and how many characters its counts gave back.
 pub struct SpecRead {
     pub spec: Spec,
     pub at: TextPlace,
@@ -66,6 +68,7 @@ pub struct SpecRead {
     pub width: Flaw,
     pub precision: Flaw,
     pub typetext: Flaw,
+    pub given: usize,
 }
 
 // Whether an align stands at a place.
@@ -195,6 +198,7 @@ fn plain_width(text: &[u8], frame: Frame, zero: bool, at: TextPlace) -> WidthRea
             span: MaybeSpan::Absent,
             at: end,
             flaw,
+            given: read.given,
         };
     }
     let span = frame::span_between(text, frame, at, end);
@@ -204,6 +208,7 @@ fn plain_width(text: &[u8], frame: Frame, zero: bool, at: TextPlace) -> WidthRea
         span: MaybeSpan::Present(span),
         at: end,
         flaw,
+        given: read.given,
     }
 }
 
@@ -225,6 +230,7 @@ fn read_width(text: &[u8], frame: Frame, at: TextPlace) -> WidthRead
                 span: MaybeSpan::Present(span),
                 at: end,
                 flaw: Flaw::Clean,
+                given: 0,
             };
         }
         return plain_width(text, frame, true, past);
@@ -247,6 +253,7 @@ fn after_dot(text: &[u8], frame: Frame, dot: TextPlace, at: TextPlace, next: usi
             at: end,
             next: next + 1,
             flaw: Flaw::Clean,
+            given: 0,
         };
     }
     let read = scan::count_at(text, frame, at);
@@ -260,6 +267,7 @@ fn after_dot(text: &[u8], frame: Frame, dot: TextPlace, at: TextPlace, next: usi
         at: end,
         next,
         flaw,
+        given: read.given,
     }
 }
 
@@ -278,6 +286,7 @@ fn read_precision(text: &[u8], frame: Frame, at: TextPlace, next: usize) -> Prec
         at,
         next,
         flaw: Flaw::Clean,
+        given: 0,
     }
 }
 
@@ -450,5 +459,6 @@ pub fn format(text: &[u8], frame: Frame, at: TextPlace, next: usize) -> SpecRead
         width: widthflaw,
         precision: precisionflaw,
         typetext: typeflaw,
+        given: wide.given + precise.given,
     }
 }

@@ -48,6 +48,7 @@ fn type_only(typed: TypeRead, next: usize) -> SpecRead
         width: Flaw::Clean,
         precision: Flaw::Clean,
         typetext: flaw,
+        given: 0,
     }
 }
 

@@ -10,10 +10,10 @@ use lib.ListN.{length, getD, List·getD-eq-default}
 use Rattle.utf8.specs.Choice.{pick, within}
 use Rattle.utf8.specs.ChoiceLaws.{not-so, within-low, within-high}
 use Rattle.utf8.specs.Utf8.{peekAt}
-use Rattle.utf8.specs.Chars.{Ch, charsFrom, takeWhile, runEnd}
-use Rattle.utf8.specs.CharLaws.{Peeked, peeked, ended, past-end, ascii-char, char-ascii, first, none-left, run-more, run-stop, run-end}
-use Rattle.letters.specs.Ascii.{asciiStart}
-use Rattle.letters.specs.AsciiLaws.{ascii-start}
+use Rattle.utf8.specs.Chars.{Ch, ch, charsFrom, charsOf, takeWhile, runEnd}
+use Rattle.utf8.specs.CharLaws.{Peeked, peeked, ended, past-end, before-more, before-past, ascii-stop, ascii-char, char-ascii, first, none-left, run-more, run-stop, run-end}
+use Rattle.letters.specs.Ascii.{asciiStart, asciiContinue}
+use Rattle.letters.specs.AsciiLaws.{ascii-start, ascii-continue, above-space}
 use Rattle.letters.specs.Questions.{isSpace, isContinue}
 use Rattle.utf8.specs.declared.Seen.{Seen}
 use Rattle.utf8.specs.declared.Seen.the-variants.{Char, End}
@@ -25,7 +25,7 @@ use Rattle.scan.specs.declared.Flaw.{Flaw}
 use Rattle.scan.specs.declared.Number.{Number}
 use Rattle.placeholder.specs.Parts.{isAlign}
 use Rattle.quick.specs.Tellings.{blankFlaw}
-use Rattle.quick.specs.PartsTold.{Room, alignByte, blankWord}
+use Rattle.quick.specs.PartsTold.{Room, AsciiRun, alignByte, blankWord}
 
 -- a digit is between `0` and `9`
 pub digit-range : {b : ℕ} → isDigit b ≡ true → (0x30 ≤ b) × (b ≤ 0x39)
@@ -166,3 +166,38 @@ module _ (t : List ℕ) (at : ℕ) {b : ℕ} (e : b ≡ getD t at 0) (l : b < 0x
           let z : asciiStart (getD t at 0) ≡ false = rw e at y in
           rw (ascii-char t at (ltb-true at (length t) q) (omega arith), ascii-start (getD t at 0) (omega arith), z)
       go false q = rw (past-end t at (ltb-false at (length t) q))
+
+-- a run of continuations stops at an ASCII byte that is none, and at the end
+pub continue-stop : (t : List ℕ) (i : ℕ) {c : ℕ} → c ≡ getD t i 0 → c < 0x80 → (i < length t → asciiContinue (getD t i 0) ≡ false) → runEnd isContinue t i ≡ i
+continue-stop t i e l n = go (ltb i (length t)) refl
+  where
+    go : (x : Bool) → ltb i (length t) ≡ x → runEnd isContinue t i ≡ i
+    go true q =
+        let h = ltb-true i (length t) q in
+        let b : getD t i 0 < 0x80 = omega (arith, e) in
+        ascii-stop isContinue t i h b (ascii-continue _ b ∙ n h)
+    go false q = run-end isContinue t i (past-end t i (ltb-false i (length t) q))
+
+-- CHARACTERS OF ASCII, one a byte: one more
+pub ascii-one : (t : List ℕ) (i : ℕ) → i < length t → getD t i 0 < 0x80 → (e : ℕ) → i + 1 ≤ e → i + 1 + length (charsOf t (i + 1) e) ≡ i + length (charsOf t i e)
+ascii-one t i h l e m =
+    let p : length (charsOf t i e) ≡ length (ch (getD t i 0) i 1 ∷ charsOf t (i + 1) e) = ap length (before-more t e i (omega (arith, m)) (ascii-char t i h l)) in
+    omega (arith, p)
+
+-- none between a place and itself
+pub no-chars : (t : List ℕ) (i : ℕ) → length (charsOf t i i) ≡ 0
+no-chars t i = ap length (before-past t i i (omega arith))
+
+-- a word from its first letter on
+pub start-chars : (t : List ℕ) (at : ℕ) {b to : ℕ} → b ≡ getD t at 0 → b < 0x80 → asciiStart b ≡ true → AsciiRun t (at + 1) to → at + length (charsOf t at to) ≡ to
+start-chars t at {b} {to} e l y r =
+    let z : asciiStart (getD t at 0) ≡ true = rw e at y in
+    let h = byte-in t at (start-in (getD t at 0) z) in
+    omega (arith, ascii-one t at h (omega (arith, e, l)) to (r .on), r .chars to (omega arith), no-chars t to)
+
+-- an ASCII character above the space is no whitespace
+pub no-space : (t : List ℕ) (at : ℕ) {b : ℕ} → b ≡ getD t at 0 → 0x20 < b → b < 0x80 → runEnd isSpace t at ≡ at
+no-space t at {b} e l h =
+    let low : getD t at 0 < 0x80 = omega (arith, e, h) in
+    let high : 0x20 < getD t at 0 = omega (arith, e, l) in
+    ascii-stop isSpace t at (byte-in t at (omega (arith, high))) low (above-space (getD t at 0) high low)

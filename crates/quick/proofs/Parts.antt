@@ -1,6 +1,6 @@
 -- What is told of each part is what is read, from the bytes at its place. Rests on Bytes and on the definitions of `scan` and `placeholder`.
 use Prim.Native.Nat.{ℕ, _+_, _≤_, _<_}
-use mathlib.Core.Path.{_≡_, refl, sym, _∙_}
+use mathlib.Core.Path.{_≡_, refl, sym, ap, _∙_}
 use mathlib.Core.Bool.{Bool, true, false, true≢false}
 use mathlib.Core.List.{List}
 use native.Mathlib.Omega.{arith}
@@ -9,8 +9,9 @@ use lib.Dec.{eqb, ltb}
 use lib.ListN.{length, getD}
 use Rattle.utf8.specs.Choice.{pick}
 use Rattle.utf8.specs.ChoiceLaws.{pick-elim}
+use Rattle.utf8.specs.Chars.{charsOf}
 use Rattle.utf8.specs.Utf8.{peekAt}
-use Rattle.utf8.specs.CharLaws.{peeked}
+use Rattle.utf8.specs.CharLaws.{peeked, before-past}
 use Rattle.utf8.specs.declared.Seen.the-variants.{Char, End}
 use Rattle.frame.specs.Places.{place, rangeOf}
 use Rattle.scan.specs.Words.{isDigit, wordEnd, wordRead}
@@ -25,7 +26,7 @@ use Rattle.placeholder.specs.Types.{hexType, isHexOrHash, debugType, wordType, 
 use Rattle.placeholder.specs.declared.MaybeSpan.{MaybeSpan}
 use Rattle.quick.specs.declared.PartTold.{PartTold}
 use Rattle.quick.specs.declared.TypeTold.{TypeTold}
-use Rattle.quick.specs.Tellings.{foundOf, countOf, widthOf, countSpan, fillOf, typeSpan, afterStar, blankFlaw}
+use Rattle.quick.specs.Tellings.{foundOf, countOf, widthOf, countSpan, backOf, fillOf, typeSpan, afterStar, blankFlaw}
 use Rattle.quick.specs.PartsTold.{Known, part, endsByte, alignByte, blankWord, NumberTold, PlaceTold, FillTold, CountGiven, WidthTold, PrecisionTold, TypeKnown}
 use Rattle.quick.proofs.Bytes.{byte-in, at-byte, has, lacks, align-byte, no-number, word-told}
 
@@ -149,11 +150,11 @@ module _ {t : List ℕ} {at : ℕ} where
 
   -- a width that is a number
   pub width-count : {word : ℕ} {p : PartTold} → CountGiven t at p → WidthTold t at word p
-  unfolding widthOf blankFlaw pick
+  unfolding widthOf backOf blankFlaw pick
   width-count {p = p} g =
       record {
         most = λ k. omega (arith, g .most k);
-        read = λ k f n. rw (g .read k f n, ne-eqb (p .tag) 4 (λ e. omega (arith, g .most k)), g .whole);
+        read = λ k f n. rw (g .read k f n, ne-eqb (p .tag) 4 (λ e. omega (arith, g .most k)), ne-eqb (p .tag) 0 (λ e. omega (arith, g .some k)), g .whole);
         spanned = λ k f n. rw (ne-eqb (p .tag) 4 (λ e. omega (arith, g .most k))) (implied n p);
         inside = g .inside;
       }
@@ -161,7 +162,7 @@ module _ {t : List ℕ} {at : ℕ} where
   module _ {word : ℕ} (d : isDigit (getD t at 0) ≡ false) (e : word ≡ wordEnd t (place at) .0) where
     -- a width that is a name
     pub width-name : at < word → getD t word 0 ≡ 0x24 → WidthTold t at word (part 4 0 (word + 1) (blankWord (getD t at 0) at word))
-    unfolding countRead nameCount isEmpty widthOf pick
+    unfolding countRead nameCount isEmpty widthOf backOf pick
     width-name l b =
         record {
           most = λ _. omega arith;
@@ -180,14 +181,15 @@ module _ {t : List ℕ} {at : ℕ} where
     -- no width: a word without `$` is left
     pub width-none : (at < word → getD t word 0 ≡ 0x24 → ⊥) → at ≤ length t →
         WidthTold t at word (part 0 0 at (blankWord (getD t at 0) at word))
-    unfolding countRead nameCount isEmpty widthOf countOf pick
+    unfolding countRead nameCount isEmpty widthOf countOf backOf pick
     width-none b h =
         record {
           most = λ _. omega arith;
           read =
               λ _ f n.
               rw (no-number t at d, word-told t at word e)
-              (pick-elim (λ (r : CountRead). r ≡ counted Count.Implied (place at) (blankFlaw (blankWord (getD t at 0) at word) at word)) (eqb at word) (λ _. refl)
+              (pick-elim (λ (r : CountRead). r ≡ counted Count.Implied (place at) (blankFlaw (blankWord (getD t at 0) at word) at word) (length (charsOf t at word))) (eqb at word)
+              (λ q. ap (counted Count.Implied (place at) (blankFlaw (blankWord (getD t at 0) at word) at word)) (sym (ap length (before-past t word at (omega (arith, eqb-true at word q))))))
               (λ q. rw (lacks t word 0x24 (omega arith) (omega arith) (b (some q)))));
           spanned = λ _ f n. refl;
           inside = h;

@@ -1,5 +1,5 @@
 -- A spec whose parts are told is the spec that is read. Rests on Parts and on `placeholder`'s definition of a Format spec.
-use Prim.Native.Nat.{ℕ, _≤_}
+use Prim.Native.Nat.{ℕ, _+_, _≤_}
 use mathlib.Core.Path.{_≡_, refl, sym, _∙_, ap}
 use mathlib.Core.Bool.{Bool, true, false}
 use mathlib.Core.List.{List}
@@ -20,7 +20,7 @@ use Rattle.placeholder.specs.declared.format.SignRead.{SignRead}
 use Rattle.placeholder.specs.declared.format.WidthRead.{WidthRead}
 use Rattle.quick.specs.declared.PartTold.{PartTold}
 use Rattle.quick.specs.declared.TypeTold.{TypeTold}
-use Rattle.quick.specs.Tellings.{widthOf, countSpan, specOf, blankFlaw}
+use Rattle.quick.specs.Tellings.{widthOf, countSpan, backOf, specOf, blankFlaw}
 use Rattle.quick.specs.PartsTold.{Room, Known, FillTold, WidthTold, PrecisionTold, TypeKnown, AllTold, SpecKnown}
 use Rattle.quick.proofs.Bytes.{lacks}
 
@@ -33,6 +33,7 @@ flagged t f n zero from word p =
       span = countSpan t f from p;
       at = place (p .end);
       flaw = blankFlaw (p .blank) from word;
+      given = backOf t from word p;
     }
 
 -- it is the width that is read
@@ -94,8 +95,8 @@ module _ {t : List ℕ} {from : ℕ} {al : AlignRead} {si : SignRead} {ha fl : C
   marks-room r i = record { within = marks-in (i .inside); small = r .small }
 
   -- A SPEC IS WHAT ITS PARTS TELL
-  pub spec-known : {at word : ℕ} {w p : PartTold} {k : TypeTold} {o : Bool} → FillTold t at from → WidthTold t (fl .at .0) word w →
-      PrecisionTold t (w .end) p → TypeKnown t (p .end) k → (o ≡ true → AllTold t (fl .ate) (fl .at .0) w p k) →
+  pub spec-known : {at word g : ℕ} {w p : PartTold} {k : TypeTold} {o : Bool} → FillTold t at from → WidthTold t (fl .at .0) word w →
+      g ≡ backOf t (fl .at .0) word w → PrecisionTold t (w .end) p → TypeKnown t (p .end) k → (o ≡ true → AllTold t (fl .ate) (fl .at .0) w p k) →
       SpecKnown t at
       (record {
         ok = o;
@@ -109,9 +110,11 @@ module _ {t : List ℕ} {from : ℕ} {al : AlignRead} {si : SignRead} {ha fl : C
         width = w;
         precision = p;
         typed = k;
+        given = g;
       })
   unfolding formatRead specOf
-  spec-known fi wi pr ki all =
+  spec-known {word = word} {g = g} {w = w} fi wi ba pr ki all =
+      let back : backOf t (fl .at .0) word w + 0 ≡ g = omega (arith, ba) in
       record {
         read =
             λ y f n.
@@ -125,6 +128,7 @@ module _ {t : List ℕ} {from : ℕ} {al : AlignRead} {si : SignRead} {ha fl : C
               plain-told wi (a .wide) f (fl .ate) n,
               pr .read (a .precise) f n,
               ki .read (a .typed) f,
+              back,
             );
         wide = λ y. wi .most (all y .wide);
         precise = λ y. pr .most (all y .precise);

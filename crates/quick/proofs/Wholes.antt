@@ -3,6 +3,7 @@ use Prim.Native.Nat.{ℕ, _+_, _≤_}
 use mathlib.Core.Path.{_≡_, refl, sym, _∙_, ap}
 use mathlib.Core.Bool.{Bool, true, false, true≢false}
 use mathlib.Core.List.{List}
+use native.Mathlib.Nat.{add-zero}
 use native.Mathlib.Omega.{arith}
 use borrow.Author.Tests.{eqb-true, eqb-false}
 use lib.Dec.{eqb}
@@ -48,6 +49,7 @@ specTold t f n x =
       width = blankFlaw (x .spec .width .blank) (x .spec .from) (x .spec .word);
       precision = Flaw.Clean;
       typetext = blankFlaw (x .spec .typed .blank) (x .spec .precision .end) (x .spec .typed .end);
+      given = x .spec .given;
     }
 
 -- the argument that is told, whose place starts at a byte
@@ -93,7 +95,7 @@ same-next a b n p = go (eqb (p .tag) 0) (eqb (p .tag) 1)
 abbrev readEnd : List ℕ → Frame → TextPlace → ArgumentRead → ℕ → PlaceholderRead
 readEnd t f brace a close =
     pick (consumed t (place close) 0x7D .ate)
-    (wholeOf t f Mode.Format brace a (Closing.Closed (place close)) (consumed t (place close) 0x7D .at) (a .next))
+    (wholeOf t f Mode.Format brace a (Closing.Closed (place close)) (consumed t (place close) 0x7D .at) (a .next) (a .given))
     (missingRead t f Mode.Format brace a (place close))
 
 -- and what is told of it, with the place of a fill
@@ -106,6 +108,7 @@ toldEnd t f brace a fill close closed hint on =
     (passedTo (place on) (a .next) (placedHint hint (place close)))))
     (place on)
     (a .next)
+    (a .given)
 
 -- they are the same
 end-told : {t : List ℕ} {p : PartTold} {close : ℕ} {closed : Bool} {hint : SignHint} {on : ℕ} → Ending t p close closed hint on →
@@ -124,6 +127,7 @@ end-told {t} {p} {close} {closed} {hint} {on} e f brace a = go (eqb (getD t clos
           e .brace,
           y,
           e .said,
+          add-zero (a .given),
         )
 
 module _ {t : List ℕ} {at : ℕ} {x : PlaceholderTold} (e : PlaceEnds t at (x .place) (x .to)) (s : Sound t x) where
@@ -223,7 +227,7 @@ module _ {t : List ℕ} {p : PartTold} {to on : ℕ} {o closed : Bool} {hint : S
   unfolding specRead afterStar blankFlaw pick
   sound-bare b k r e =
       record {
-        spec = λ f n. rw (lacks t to 0x3A (omega arith) (omega arith) b, k .wide, k .precise, k .typed, k .ends);
+        spec = λ f n. rw (lacks t to 0x3A (omega arith) (omega arith) b, k .wide, k .precise, k .typed, k .ends, k .given);
         colon = λ z. absurd (true≢false (sym z));
         wide = rw (k .wide) (omega arith);
         precise = rw (k .precise) (omega arith);

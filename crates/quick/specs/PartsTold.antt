@@ -1,16 +1,17 @@
 -- What each part of the quick lane tells: where it is told, the part's definition in `scan` or `placeholder` is this record. Rests on Tellings.
-use Prim.Native.Nat.{ℕ, _+_, _≤_}
+use Prim.Native.Nat.{ℕ, _+_, _≤_, _<_}
 use mathlib.Core.Path.{_≡_}
 use mathlib.Core.Bool.{Bool, true, false}
 use mathlib.Core.List.{List}
 use lib.Dec.{eqb, leb}
 use lib.ListN.{length, getD}
 use Rattle.utf8.specs.Choice.{pick, both}
-use Rattle.utf8.specs.Chars.{runEnd}
-use Rattle.letters.specs.Questions.{isSpace}
+use Rattle.utf8.specs.Chars.{charsOf, runEnd}
+use Rattle.letters.specs.Ascii.{asciiContinue}
+use Rattle.letters.specs.Questions.{isSpace, isContinue}
 use Rattle.frame.specs.Places.{place, rangeOf}
 use Rattle.frame.specs.declared.Frame.{Frame}
-use Rattle.scan.specs.Words.{numberRead}
+use Rattle.scan.specs.Words.{numberRead, wordEnd}
 use Rattle.scan.specs.Counts.{countRead}
 use Rattle.scan.specs.declared.Flaw.{Flaw}
 use Rattle.scan.specs.declared.Number.{Number}
@@ -22,10 +23,11 @@ use Rattle.placeholder.specs.Format.{formatRead}
 use Rattle.placeholder.specs.declared.Hex.{Hex}
 use Rattle.placeholder.specs.declared.format.SpecRead.{SpecRead}
 use Rattle.quick.specs.declared.PartTold.{PartTold}
+use Rattle.quick.specs.declared.WordTold.{WordTold}
 use Rattle.quick.specs.declared.TypeTold.{TypeTold}
 use Rattle.quick.specs.declared.SignHint.{SignHint}
 use Rattle.quick.specs.declared.SpecTold.{SpecTold}
-use Rattle.quick.specs.Tellings.{foundOf, countOf, widthOf, countSpan, fillOf, typeSpan, afterStar, specOf, blankFlaw}
+use Rattle.quick.specs.Tellings.{foundOf, countOf, widthOf, countSpan, backOf, fillOf, typeSpan, afterStar, specOf, blankFlaw}
 
 -- a place within a text of at most refusal 3's limit
 pub record Room (t : List ℕ) (at : ℕ) : Type 0 where
@@ -72,6 +74,19 @@ pastHint SignHint.Equals at = at + 1
 unfoldable pub onwardOf : Bool → SignHint → ℕ → ℕ
 onwardOf closed hint at = pick closed (at + 1) (pastHint hint at)
 
+-- a run of continuations in ASCII, from a byte to another: the run goes on at the second only with a letter that is not ASCII
+pub record AsciiRun (t : List ℕ) (at to : ℕ) : Type 0 where
+  pub run : runEnd isContinue t to ≡ runEnd isContinue t at
+  pub ends : to < length t → asciiContinue (getD t to 0) ≡ false
+  pub on : at ≤ to
+  pub chars : (e : ℕ) → to ≤ e → to + length (charsOf t to e) ≡ at + length (charsOf t at e)
+
+-- a word: one that is known to be ASCII has as many characters as bytes
+pub record WordKnown (t : List ℕ) (at : ℕ) (w : WordTold) : Type 0 where
+  pub ends : w .end ≡ wordEnd t (place at) .0
+  pub on : at ≤ w .end
+  pub chars : w .ascii ≡ true → at + length (charsOf t at (w .end)) ≡ w .end
+
 -- the number that starts at a byte: one that is told is within the range
 pub record NumberTold (t : List ℕ) (at : ℕ) (p : PartTold) : Type 0 where
   pub one : Known p → p .tag ≡ 1
@@ -100,7 +115,7 @@ pub record CountGiven (t : List ℕ) (at : ℕ) (p : PartTold) : Type 0 where
   pub some : Known p → 1 ≤ p .tag
   pub most : Known p → p .tag ≤ 2
   pub read : Known p → (f : Frame) (n : ℕ) →
-      countRead t f (place at) ≡ record { count = countOf n p; at = place (p .end); flaw = Flaw.Clean }
+      countRead t f (place at) ≡ record { count = countOf n p; at = place (p .end); flaw = Flaw.Clean; given = 0 }
   pub whole : p .blank ≡ false
   pub inside : p .end ≤ length t
 
@@ -108,7 +123,7 @@ pub record CountGiven (t : List ℕ) (at : ℕ) (p : PartTold) : Type 0 where
 pub record WidthTold (t : List ℕ) (at word : ℕ) (p : PartTold) : Type 0 where
   pub most : Known p → p .tag ≤ 4
   pub read : Known p → (f : Frame) (n : ℕ) →
-      countRead t f (place at) ≡ record { count = widthOf t f n at word p; at = place (p .end); flaw = blankFlaw (p .blank) at word }
+      countRead t f (place at) ≡ record { count = widthOf t f n at word p; at = place (p .end); flaw = blankFlaw (p .blank) at word; given = backOf t at word p }
   pub spanned : Known p → (f : Frame) (n : ℕ) → isImplied (widthOf t f n at word p) ≡ eqb (p .tag) 0
   pub inside : p .end ≤ length t
 
@@ -122,6 +137,7 @@ pub record PrecisionTold (t : List ℕ) (at : ℕ) (p : PartTold) : Type 0 where
         at = place (p .end);
         next = afterStar n p;
         flaw = Flaw.Clean;
+        given = 0;
       }
   pub inside : p .end ≤ length t
 
@@ -154,6 +170,7 @@ specFound t f at n s =
       width = blankFlaw (s .width .blank) (s .from) (s .word);
       precision = Flaw.Clean;
       typetext = blankFlaw (s .typed .blank) (s .precision .end) (s .typed .end);
+      given = s .given;
     }
 
 -- the spec after a colon
@@ -169,6 +186,7 @@ pub record NoSpec (at : ℕ) (s : SpecTold) : Type 0 where
   pub precise : s .precision ≡ part 0 0 at false
   pub typed : s .typed .blank ≡ false
   pub ends : s .typed .end ≡ at
+  pub given : s .given ≡ 0
 
 -- a placeholder whose place and spec are told, and at whose end a byte stands that begins nothing more
 pub record LeftTold (b : ℕ) (p : PartTold) (spec : Bool) : Type 0 where

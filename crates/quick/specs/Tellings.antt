@@ -6,6 +6,7 @@ use mathlib.Core.List.{List}
 use lib.Dec.{eqb}
 use lib.ListN.{length}
 use Rattle.utf8.specs.Choice.{pick}
+use Rattle.utf8.specs.Chars.{charsOf}
 use Rattle.utf8.specs.Utf8.{peekAt}
 use Rattle.utf8.specs.declared.Seen.{Seen}
 use Rattle.utf8.specs.declared.Seen.the-variants.{Char, End}
@@ -63,6 +64,10 @@ widthOf t f n from word p =
 -- the span of a count that starts at a byte
 unfoldable pub countSpan : List ℕ → Frame → ℕ → PartTold → MaybeSpan
 countSpan t f from p = pick (eqb (p .tag) 0) MaybeSpan.Absent (MaybeSpan.Present (spanBetween t f (place from) (place (p .end))))
+
+-- how many characters of the word between two bytes are given back where a width was looked for: all of them where it is none
+unfoldable pub backOf : List ℕ → ℕ → ℕ → PartTold → ℕ
+backOf t from word p = pick (eqb (p .tag) 0) (length (charsOf t from word)) 0
 
 -- the code of a character; 0 at the end
 abbrev pub codeSeen : Seen → ℕ
@@ -156,6 +161,7 @@ toldRead t f brace n x =
       closing = closingOf t f brace n x;
       at = place (x .on);
       next = nextOf n x;
+      given = x .spec .given;
     }
 
 -- WHAT IS TOLD IS WHAT IS READ, for the placeholder whose place starts at a byte, in any frame and with any number of the next argument

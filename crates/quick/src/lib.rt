@@ -1,5 +1,5 @@
-// The quick lane: a placeholder of Format mode, told in plain numbers, with the faults that need no more than a look: a word `_`, and a closing brace
-// that is missing. Whatever it does not tell is left to `closing`, and what it tells is what `closing` reads.
+// The parts of a placeholder of Format mode, told in plain numbers, with the faults that need no more than a look: a word `_`, and a closing brace
+// that is missing. What they tell is what `closing` reads, and what they do not tell is left to it. `fills` writes each part as soon as it is told.
 use frame::TextPlace;
 use placeholder::Align;
 use placeholder::Sign;
@@ -9,9 +9,12 @@ ghost use mathlib.Core.Bool.{true, false};
 ghost use Prim.Native.Nat.{ℕ, _+_, _≤_};
 ghost use lib.ListN.{getD};
 ghost use Rattle.frame.specs.Places.{place};
+ghost use Rattle.utf8.specs.Chars.{runEnd};
+ghost use Rattle.letters.specs.Questions.{isSpace};
+ghost use Rattle.letters.specs.Ascii.{asciiContinue};
 ghost use Rattle.scan.specs.Words.{isDigit, wordEnd};
-ghost use Rattle.quick.specs.Tellings.{Tells};
-ghost use Rattle.quick.specs.PartsTold.{Room, part, alignByte, endsByte, blankWord, hintOf, onwardOf, NumberTold, PlaceTold, FillTold, CountGiven, WidthTold, PrecisionTold, TypeKnown, AllTold, SpecKnown, NoSpec, LeftTold, PlaceEnds};
+ghost use Rattle.quick.specs.Tellings.{backOf};
+ghost use Rattle.quick.specs.PartsTold.{Room, part, alignByte, endsByte, blankWord, hintOf, onwardOf, AsciiRun, WordKnown, NumberTold, PlaceTold, FillTold, CountGiven, WidthTold, PrecisionTold, TypeKnown, AllTold, NoSpec, LeftTold};
 
 // A place or a count. Tag 0: nothing; 1: a number; 2: of a place a word, of a count a number with `$`; 3: a star; 4: a word with `$`; 9: it is
 // not told. `blank`: the word `_` stands there, which is a fault.
@@ -20,6 +23,12 @@ pub struct PartTold {
     pub value: u16,
     pub end: usize,
     pub blank: bool,
+}
+
+// A word: where it ends, and whether it is known to be ASCII, a character each byte.
+pub struct WordTold {
+    pub end: usize,
+    pub ascii: bool,
 }
 
 // A type: where it ends, and whether it is a word, and the word `_`. Not `ok`: it is not told.
@@ -31,7 +40,7 @@ pub struct TypeTold {
 }
 
 // The spec after a colon: the place after its fill (that of the colon's end where there is none), its marks, where its width starts and the word
-// there ends, and its other parts.
+// there ends, its other parts, and how many characters of that word were given back.
 pub struct SpecTold {
     pub ok: bool,
     pub fill: usize,
@@ -44,6 +53,7 @@ pub struct SpecTold {
     pub width: PartTold,
     pub precision: PartTold,
     pub typed: TypeTold,
+    pub given: usize,
 }
 
 // What is said of a sign where a closing brace was expected.
@@ -67,6 +77,26 @@ pub struct PlaceholderTold {
     pub closed: bool,
     pub hint: SignHint,
     pub on: usize,
+}
+
+// The same text, lent anew: a slice that is lent to a call which stays one is kept in memory, and the lane's own is to stay in registers (docs/SPEED.md).
+pub fn whole(text: &[u8]) -> &[u8]
+    ensures { λ r. ⌜ now r ≡ now (text .entry) ⌝ }
+{
+    text
+}
+
+// Where the whitespace from `at` ends: in place where none stands there, else by a call.
+pub fn space_end(text: &[u8], at: usize) -> usize
+    ensures { λ r. ⌜ r ≡ runEnd isSpace (now (text .entry)) at ⌝ }
+{
+    let b = utf8::byte(text, at);
+    if 0x20 < b {
+        if b < 0x80 {
+            return at;
+        }
+    }
+    letters::space_end(whole(text), at)
 }
 
 fn is_digit(b: u8) -> bool
@@ -114,10 +144,59 @@ fn untold(at: usize) -> PartTold
     plain(9, 0, at)
 }
 
-fn nothing(at: usize) -> PartTold
+pub fn nothing(at: usize) -> PartTold
     ensures { λ r. ⌜ r ≡ part 0 0 at false ⌝ }
 {
     plain(0, 0, at)
+}
+
+// Whether a byte is an ASCII letter, `_` or a digit. Letters come first: they are the most.
+fn continues(b: u8) -> bool
+    ensures { λ r. ⌜ r ≡ asciiContinue b ⌝ }
+{
+    if letters::ascii_start(b) {
+        return true;
+    }
+    is_digit(b)
+}
+
+// The place after the ASCII continuations at `at`.
+fn ascii_end(text: &[u8], at: usize) -> usize
+    ensures { λ r. ⌜ AsciiRun (now (text .entry)) at r ⌝ }
+{
+    let mut i = at;
+    while i < text.len() {
+        if !continues(text[i]) {
+            return i;
+        }
+        i += 1;
+    }
+    i
+}
+
+// The word at a place. One in ASCII is passed here, and only one with other letters takes a call: so this is small enough to stand in its callers.
+pub fn word_at(text: &[u8], at: usize) -> WordTold
+    requires { ⌜ Room (now text) at ⌝ }
+    ensures { λ r. ⌜ WordKnown (now (text .entry)) at r ⌝ }
+{
+    let b = utf8::byte(text, at);
+    if b < 0x80 {
+        if !letters::ascii_start(b) {
+            return WordTold {
+                end: at,
+                ascii: true,
+            };
+        }
+        let end = ascii_end(text, at + 1);
+        if utf8::byte(text, end) < 0x80 {
+            return WordTold { end, ascii: true };
+        }
+    }
+    let end = scan::word_end(whole(text), TextPlace(at));
+    WordTold {
+        end: end.0,
+        ascii: false,
+    }
 }
 
 // Where the word at a place ends.
@@ -125,19 +204,26 @@ fn word_end(text: &[u8], at: usize) -> usize
     requires { ⌜ Room (now text) at ⌝ }
     ensures { λ r. ⌜ r ≡ wordEnd (now (text .entry)) (place at) .0 ⌝ }
 {
-    let b = utf8::byte(text, at);
-    if b < 0x80 {
-        if letters::ascii_start(b) {
-            return letters::continue_end(text, at + 1);
-        }
-        return at;
+    let word = word_at(text, at);
+    word.end
+}
+
+// How many characters of the word at `from` are given back: all of them, where it was read for a width and is none.
+pub fn given_back(text: &[u8], from: usize, word: WordTold, width: PartTold) -> usize
+    requires { ⌜ WordKnown (now text) from word ⌝ }
+    ensures { λ r. ⌜ r ≡ backOf (now (text .entry)) from (word .end) width ⌝ }
+{
+    if width.tag != 0 {
+        return 0;
     }
-    let end = scan::word_end(text, TextPlace(at));
-    end.0
+    if word.ascii {
+        return word.end - from;
+    }
+    utf8::chars_between(whole(text), from, word.end)
 }
 
 // The place of an argument. The word `r` is not told: it may begin a raw name.
-fn place(text: &[u8], at: usize) -> PartTold
+pub fn place(text: &[u8], at: usize) -> PartTold
     requires { ⌜ Room (now text) at ⌝ }
     ensures { λ r. ⌜ PlaceTold (now (text .entry)) at r ⌝ }
 {
@@ -182,8 +268,25 @@ fn is_align(b: u8) -> bool
     b == b'^'
 }
 
-// The place after the fill, or the same place where there is none.
-fn fill_end(text: &[u8], at: usize) -> usize
+// The place after the fill, or the same place where there is none. A fill in ASCII is looked at here, another takes a call.
+pub fn fill_end(text: &[u8], at: usize) -> usize
+    requires { ⌜ Room (now text) at ⌝ }
+    ensures { λ r. ⌜ FillTold (now (text .entry)) at r ⌝ }
+{
+    if text.len() <= at {
+        return at;
+    }
+    if text[at] < 0x80 {
+        if is_align(utf8::byte(text, at + 1)) {
+            return at + 1;
+        }
+        return at;
+    }
+    wide_fill(whole(text), at)
+}
+
+// The same for a fill that is any character.
+fn wide_fill(text: &[u8], at: usize) -> usize
     requires { ⌜ Room (now text) at ⌝ }
     ensures { λ r. ⌜ FillTold (now (text .entry)) at r ⌝ }
 {
@@ -219,7 +322,7 @@ fn count(text: &[u8], at: usize) -> PartTold
 }
 
 // The width. `word` is where the word at `at` ends: with `$` it is a name, without it is left for the type.
-fn width(text: &[u8], at: usize, word: usize) -> PartTold
+pub fn width(text: &[u8], at: usize, word: usize) -> PartTold
     requires { ⌜ Room (now text) at × (word ≡ wordEnd (now text) (place at) .0) ⌝ }
     ensures { λ r. ⌜ WidthTold (now (text .entry)) at word r ⌝ }
 {
@@ -247,7 +350,7 @@ fn width(text: &[u8], at: usize, word: usize) -> PartTold
 }
 
 // The precision with its dot: a star or a number; any other is not told.
-fn precision(text: &[u8], at: usize) -> PartTold
+pub fn precision(text: &[u8], at: usize) -> PartTold
     requires { ⌜ Room (now text) at ⌝ }
     ensures { λ r. ⌜ PrecisionTold (now (text .entry)) at r ⌝ }
 {
@@ -289,7 +392,7 @@ fn ends_spec(b: u8) -> bool
 }
 
 // The type. The word at `from` ends at `word`, and is not looked for again.
-fn type_at(text: &[u8], at: usize, from: usize, word: usize) -> TypeTold
+pub fn type_at(text: &[u8], at: usize, from: usize, word: usize) -> TypeTold
     requires { ⌜ Room (now text) at × (word ≡ wordEnd (now text) (place from) .0) ⌝ }
     ensures { λ r. ⌜ TypeKnown (now (text .entry)) at r ⌝ }
 {
@@ -312,40 +415,8 @@ fn type_at(text: &[u8], at: usize, from: usize, word: usize) -> TypeTold
     }
 }
 
-// The spec from after its colon.
-fn spec(text: &[u8], at: usize) -> SpecTold
-    requires { ⌜ Room (now text) at ⌝ }
-    ensures { λ r. ⌜ SpecKnown (now (text .entry)) at r ⌝ }
-{
-    let fill = fill_end(text, at);
-    let aligning = placeholder::format::read_align(text, TextPlace(fill));
-    let align = aligning.align;
-    let signing = placeholder::format::read_sign(text, aligning.at);
-    let sign = signing.sign;
-    let hash = scan::consume(text, signing.at, b'#');
-    let flag = scan::consume(text, hash.at, b'0');
-    let from = flag.at.0;
-    let word = word_end(text, from);
-    let width = width(text, from, word);
-    let precision = precision(text, width.end);
-    let typed = type_at(text, precision.end, from, word);
-    SpecTold {
-        ok: all_told(text, flag.ate, from, width, precision, typed),
-        fill,
-        align,
-        sign,
-        alternate: hash.ate,
-        zero: flag.ate,
-        from,
-        word,
-        width,
-        precision,
-        typed,
-    }
-}
-
 // Whether the parts of a spec are told. A `0` with `$` is no flag, and is not told.
-fn all_told(
+pub fn all_told(
     text: &[u8],
     zero: bool,
     from: usize,
@@ -370,7 +441,7 @@ fn all_told(
 }
 
 // Where no spec stands.
-fn no_spec(at: usize) -> SpecTold
+pub fn no_spec(at: usize) -> SpecTold
     ensures { λ r. ⌜ NoSpec at r ⌝ }
 {
     SpecTold {
@@ -390,60 +461,12 @@ fn no_spec(at: usize) -> SpecTold
             blank: false,
             end: at,
         },
-    }
-}
-
-// The placeholder whose place starts at `at`.
-pub fn tell(text: &[u8], at: usize) -> PlaceholderTold
-    requires { ⌜ Room (now text) at ⌝ }
-    ensures { λ r. ⌜ Tells (now (text .entry)) at r ⌝ }
-{
-    let place = place(text, at);
-    let to = letters::space_end(text, place.end);
-    let b = utf8::byte(text, to);
-    if b == b':' {
-        return with_spec(text, place, to);
-    }
-    let closed = b == b'}';
-    let hint = hint_at(text, to);
-    PlaceholderTold {
-        ok: is_told(b, place, true),
-        place,
-        to,
-        colon: false,
-        spec: no_spec(to),
-        close: to,
-        closed,
-        hint,
-        on: onward(closed, hint, to),
-    }
-}
-
-// A placeholder with a colon at `to`.
-fn with_spec(text: &[u8], place: PartTold, to: usize) -> PlaceholderTold
-    requires { ⌜ Room (now text) to × (getD (now text) to 0 ≡ 0x3A) ⌝ }
-    ensures { λ r. ⌜ ((at : ℕ) → PlaceEnds (now (text .entry)) at place to → Tells (now (text .entry)) at r) ⌝ }
-{
-    let spec = spec(text, to + 1);
-    let close = letters::space_end(text, spec.typed.end);
-    let b = utf8::byte(text, close);
-    let closed = b == b'}';
-    let hint = hint_at(text, close);
-    PlaceholderTold {
-        ok: is_told(b, place, spec.ok),
-        place,
-        to,
-        colon: true,
-        spec,
-        close,
-        closed,
-        hint,
-        on: onward(closed, hint, close),
+        given: 0,
     }
 }
 
 // Whether a placeholder at whose end the byte `b` stands is told. A `?` and a `.` there may begin more.
-fn is_told(b: u8, place: PartTold, spec: bool) -> bool
+pub fn is_told(b: u8, place: PartTold, spec: bool) -> bool
     ensures { λ r. ⌜ (r ≡ true → LeftTold b place spec) ⌝ }
 {
     if !spec {
@@ -459,7 +482,7 @@ fn is_told(b: u8, place: PartTold, spec: bool) -> bool
 }
 
 // What is said of the sign at a place where a closing brace was expected, if two characters remain.
-fn hint_at(text: &[u8], at: usize) -> SignHint
+pub fn hint_at(text: &[u8], at: usize) -> SignHint
     requires { ⌜ Room (now text) at ⌝ }
     ensures { λ r. ⌜ r ≡ hintOf (now (text .entry)) at ⌝ }
 {
@@ -489,7 +512,7 @@ fn hint_at(text: &[u8], at: usize) -> SignHint
 }
 
 // Where reading goes on: after the closing brace, or after a sign of which something is said.
-fn onward(closed: bool, hint: SignHint, close: usize) -> usize
+pub fn onward(closed: bool, hint: SignHint, close: usize) -> usize
     requires { ⌜ close ≤ 65535 ⌝ }
     ensures { λ r. ⌜ r ≡ onwardOf closed hint close ⌝ }
 {

@@ -11,3 +11,4 @@ pub mod Push
 pub mod Records
 pub mod Runs
 pub mod Shift
+pub mod Fresh

@@ -1,2 +1,3 @@
--- Records added to a lent list.
+-- Records added to a lent list (Lent), and a call (Reads).
 pub mod Lent
+pub mod Reads

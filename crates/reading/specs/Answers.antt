@@ -12,6 +12,7 @@ use Rattle.frame.specs.declared.Frame.{Frame}
 use Rattle.frame.specs.declared.Style.{Style}
 use Rattle.frame.specs.declared.Mode.{Mode}
 use Rattle.reading.specs.Lists.{pieces, countsOf}
+use Rattle.reading.specs.Moves.{moves}
 use Rattle.reading.specs.Wants.{wants}
 use Rattle.reading.specs.declared.Counts.{Counts}
 use Rattle.reading.specs.declared.Hashes.{Hashes}
@@ -29,8 +30,8 @@ noCounts =
       lines = 0;
     }
 
-abbrev pub answered : ℕ → ℕ → Counts → ℕ → Answer
-answered number at counts arguments = record { number = number; place = at; counts = counts; arguments = arguments }
+abbrev pub answered : ℕ → ℕ → Counts → ℕ → ℕ → Answer
+answered number at counts arguments moves = record { number = number; place = at; counts = counts; arguments = arguments; moves = moves }
 
 -- 2: "style above 255 hashes, or a snippet without a style" (R2.2)
 abbrev pub isStyled : Hashes → Bool → Bool
@@ -96,13 +97,16 @@ firstOf [] = 0
 firstOf (x ∷ xs) = pick (x .test) (x .number) (firstOf xs)
 
 -- "The place is the length of the longest valid prefix for 4, else 0. The counts are the records needed for 0 and 6 to 9, else 0." (R1.5, R1.6)
--- How many arguments the pieces want is said where they are listed: for 0, else 0. (R1.12)
-unfoldable pub answerBy : ℕ → ℕ → Counts → ℕ → Answer
-answerBy number prefix counts arguments =
+-- How many arguments the pieces want is said where they are listed: for 0, else 0. (R1.12) And so with the moves: "Every refusal reports 0." (R1.13)
+unfoldable pub answerBy : ℕ → ℕ → Counts → ℕ → ℕ → Answer
+answerBy number prefix counts arguments moves =
     answered number (pick (eqb number 4) prefix 0) (pick (either (eqb number 0) (ltb 5 number)) counts noCounts) (pick (eqb number 0) arguments 0)
+    (pick (eqb number 0) moves 0)
 
 -- THE ANSWER (R1.2)
 unfoldable pub answerOf : List ℕ → List ℕ → Request → Rooms → Answer
 answerOf t s q r =
-    let counts = countsOf t (frameFor t s q) (modeFor q) in
-    answerBy (firstOf (refusals t s q counts r)) (validPrefix t) counts (wants (pieces t (frameFor t s q) (modeFor q)))
+    let f = frameFor t s q in
+    let m = modeFor q in
+    let counts = countsOf t f m in
+    answerBy (firstOf (refusals t s q counts r)) (validPrefix t) counts (wants (pieces t f m)) (moves t f m)

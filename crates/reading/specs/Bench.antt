@@ -7,7 +7,7 @@ use mathlib.Core.Bool.{true, false}
 use mathlib.Core.List.{List, [], _∷_}
 use Rattle.utf8.specs.Choice.{pick, within}
 use Rattle.utf8.specs.Utf8.{low, high, sequenceOf, charOf, sequenceAt, decode, peekAt, valid, validPrefix}
-use Rattle.utf8.specs.Chars.{charsAt, charsFrom, takeWhile, bytes, runEnd}
+use Rattle.utf8.specs.Chars.{charsAt, charsFrom, before, takeWhile, bytes, runEnd}
 use Rattle.letters.specs.Table.{member}
 use Rattle.letters.specs.Start.{start}
 use Rattle.letters.specs.Continue.{continue}
@@ -33,11 +33,12 @@ use Rattle.placeholder.specs.declared.Place.{Place}
 use Rattle.closing.specs.Defaults.{noMarks, noCounts, isDefault, isIdentifier}
 use Rattle.closing.specs.Recovery.{gapAt, fieldRead, recoverRead}
 use Rattle.closing.specs.Wholes.{missingRead, placeholderRead}
+use Rattle.reading.specs.Moves.{braceAt, movesIn, moves}
 use Rattle.reading.specs.Wants.{larger, argumentWants, wants}
 use Rattle.reading.specs.Steps.{afterOpen, afterClose, stepAt, stepsFrom, reading}
 use Rattle.reading.specs.Faults.{argumentSlots, missingSlots, closingSlots, stepSlots, wrong, faultsOf, marked}
 use Rattle.reading.specs.Records.{errorOf, bareError, recordOf}
-use Rattle.reading.specs.Lines.{before, charsIn, newlines, cut, lineAfter, endedLines, lineStart}
+use Rattle.reading.specs.Lines.{charsIn, newlines, cut, lineAfter, endedLines, lineStart}
 use Rattle.reading.specs.Lists.{gather, pieces, frontOnly, backOnly, reversed, listed, records, findings, found, errors, places, literalChars, toTheEnd, sameSpan, isLast, linesIn, lines, countsOf}
 use Rattle.reading.specs.Answers.{noCounts as none-counted, answered, isLong, isBroken, endsInNewline, lacksNewline, modeOf, frameFor, firstOf, answerBy, answerOf}
 use Rattle.reading.specs.Cases.{Case, rooms256, allGiven, bytesOf, span, range, some, none, quoted, unquoted, lit, arg, named, spec, typed, empty, ask, counts, rooms, done, bare, source}
@@ -175,7 +176,7 @@ further =
       text = bytesOf "a\n";
       snippet = bytesOf "r\"a\"";
       request = ask 0 (Hashes.Raw 0) true true;
-      answer = done (lit 0 2 ∷ []) [] [] (span 2 3 ∷ span 4 3 ∷ []);
+      answer = done 2 (lit 0 2 ∷ []) [] [] (span 2 3 ∷ span 4 3 ∷ []);
       pieces = lit 0 2 ∷ [];
       errors = [];
       places = [];
@@ -271,18 +272,18 @@ expectations (x ∷ xs) = x .expected ∷ expectations xs
 -- each refusal, and the order of those that a call can meet together; 3 takes a text longer than a case
 abbrev pub refused : List Asked
 refused =
-    asked (answerOf [] [] (ask 3 Hashes.Plain true false) rooms256) (answered 1 0 none-counted 0) ∷
-    asked (answerOf (0xFF ∷ []) [] (ask 0 Hashes.Plain true false) rooms256) (answered 2 0 none-counted 0) ∷
-    asked (answerOf [] [] (ask 0 (Hashes.Raw 256) false false) rooms256) (answered 2 0 none-counted 0) ∷
-    asked (answerOf (0x61 ∷ 0xFF ∷ []) [] (ask 0 Hashes.Plain false true) rooms256) (answered 4 1 none-counted 0) ∷
-    asked (answerOf (bytesOf "a") [] (ask 0 Hashes.Plain false true) (rooms 0 0 0 0)) (answered 5 0 none-counted 0) ∷
-    asked (answerOf (bytesOf "{a.b}") [] (ask 0 Hashes.Plain false false) (rooms 0 1 0 0)) (answered 6 0 (counts 1 2 0 0) 0) ∷
-    asked (answerOf (bytesOf "{a.b}") [] (ask 0 Hashes.Plain false false) (rooms 1 1 0 0)) (answered 7 0 (counts 1 2 0 0) 0) ∷
-    asked (answerOf (bytesOf "{}}") (bytesOf "r\"{}}\"") (ask 0 (Hashes.Raw 0) true false) (rooms 1 0 0 0)) (answered 7 0 (counts 1 1 1 0) 0) ∷
-    asked (answerOf (bytesOf "{}") (bytesOf "r\"{}\"") (ask 0 (Hashes.Raw 0) true false) (rooms 1 0 0 0)) (answered 8 0 (counts 1 0 1 1) 0) ∷
-    asked (answerOf (bytesOf "{}") (bytesOf "r\"{}\"") (ask 0 (Hashes.Raw 0) true false) (rooms 1 0 1 0)) (answered 9 0 (counts 1 0 1 1) 0) ∷
+    asked (answerOf [] [] (ask 3 Hashes.Plain true false) rooms256) (answered 1 0 none-counted 0 0) ∷
+    asked (answerOf (0xFF ∷ []) [] (ask 0 Hashes.Plain true false) rooms256) (answered 2 0 none-counted 0 0) ∷
+    asked (answerOf [] [] (ask 0 (Hashes.Raw 256) false false) rooms256) (answered 2 0 none-counted 0 0) ∷
+    asked (answerOf (0x61 ∷ 0xFF ∷ []) [] (ask 0 Hashes.Plain false true) rooms256) (answered 4 1 none-counted 0 0) ∷
+    asked (answerOf (bytesOf "a") [] (ask 0 Hashes.Plain false true) (rooms 0 0 0 0)) (answered 5 0 none-counted 0 0) ∷
+    asked (answerOf (bytesOf "{a.b}") [] (ask 0 Hashes.Plain false false) (rooms 0 1 0 0)) (answered 6 0 (counts 1 2 0 0) 0 0) ∷
+    asked (answerOf (bytesOf "{a.b}") [] (ask 0 Hashes.Plain false false) (rooms 1 1 0 0)) (answered 7 0 (counts 1 2 0 0) 0 0) ∷
+    asked (answerOf (bytesOf "{}}") (bytesOf "r\"{}}\"") (ask 0 (Hashes.Raw 0) true false) (rooms 1 0 0 0)) (answered 7 0 (counts 1 1 1 0) 0 0) ∷
+    asked (answerOf (bytesOf "{}") (bytesOf "r\"{}\"") (ask 0 (Hashes.Raw 0) true false) (rooms 1 0 0 0)) (answered 8 0 (counts 1 0 1 1) 0 0) ∷
+    asked (answerOf (bytesOf "{}") (bytesOf "r\"{}\"") (ask 0 (Hashes.Raw 0) true false) (rooms 1 0 1 0)) (answered 9 0 (counts 1 0 1 1) 0 0) ∷
     -- the first notice with room for one line: by the same count
-    asked (answerOf (bytesOf "{:\n x}") (bytesOf "r\"{:\n x}\"") (ask 2 (Hashes.Raw 0) true false) (rooms 1 0 1 1)) (answered 9 0 (counts 1 0 1 2) 0) ∷
+    asked (answerOf (bytesOf "{:\n x}") (bytesOf "r\"{:\n x}\"") (ask 2 (Hashes.Raw 0) true false) (rooms 1 0 1 1)) (answered 9 0 (counts 1 0 1 2) 0 0) ∷
     []
 
 -- how many arguments a text's pieces want, no style and no snippet
@@ -330,6 +331,50 @@ texts =
 abbrev pub their : List ℕ
 their = 0 ∷ 0 ∷ 1 ∷ 4 ∷ 8 ∷ 2 ∷ 65536 ∷ 2 ∷ 6 ∷ 1 ∷ 1 ∷ 1 ∷ 0 ∷ 0 ∷ 0 ∷ 1 ∷ 0 ∷ 0 ∷ 2 ∷ 0 ∷ 0 ∷ 0 ∷ 1 ∷ 2 ∷ 1 ∷ []
 
+-- how many characters are passed, no style and no snippet
+abbrev pub passed : ℕ → List ℕ → ℕ
+passed mode t = answerOf t [] (ask mode Hashes.Plain false false) rooms256 .moves
+
+-- the moves of texts, and how many they are to be, one under the other
+abbrev pub readings : List ℕ
+readings =
+    passed 0 (bytesOf "") ∷
+    passed 0 (bytesOf "a{{b") ∷
+    passed 0 (bytesOf "{}") ∷
+    -- a lone `}` is passed, and nothing behind it
+    passed 0 (bytesOf "}") ∷
+    passed 0 (bytesOf "a}b") ∷
+    -- characters, not bytes: ø, and `{:ø}`, whose type is read twice
+    passed 0 (0xC3 ∷ 0xB8 ∷ []) ∷
+    passed 0 (0x7B ∷ 0x3A ∷ 0xC3 ∷ 0xB8 ∷ 0x7D ∷ []) ∷
+    -- a word that is read for a width, and given back: closed or not, `_`, and before a `?`
+    passed 0 (bytesOf "{:aaa}") ∷
+    passed 0 (bytesOf "{:aaaa") ∷
+    passed 0 (bytesOf "{:_}") ∷
+    passed 0 (bytesOf "{:x?}") ∷
+    -- the type ends at the `x`, and the rest of the word is read a second time as a literal
+    passed 0 (bytesOf "{:xaaaa}") ∷
+    -- behind a dot, and behind a `0`
+    passed 0 (bytesOf "{:.aa}") ∷
+    passed 0 (bytesOf "{:0aa}") ∷
+    -- with a `$`, behind a number and behind a star none is given back, and a sign is no word
+    passed 0 (bytesOf "{:aa$}") ∷
+    passed 0 (bytesOf "{:aa$b}") ∷
+    passed 0 (bytesOf "{:5aa}") ∷
+    passed 0 (bytesOf "{:.*aa}") ∷
+    passed 0 (bytesOf "{:?}") ∷
+    -- a place is read once, and so is a field met in recovery, but for what its own count gives back
+    passed 0 (bytesOf "{aaa}") ∷
+    passed 0 (bytesOf "{a.b}") ∷
+    passed 0 (bytesOf "{a.b:cc}") ∷
+    -- in the other modes nothing is read twice
+    passed 1 (bytesOf "{:aaa}") ∷
+    passed 2 (bytesOf "{:aaa}") ∷
+    []
+
+abbrev pub strides : List ℕ
+strides = 0 ∷ 4 ∷ 2 ∷ 1 ∷ 2 ∷ 1 ∷ 5 ∷ 9 ∷ 10 ∷ 5 ∷ 6 ∷ 13 ∷ 8 ∷ 8 ∷ 6 ∷ 7 ∷ 6 ∷ 7 ∷ 4 ∷ 5 ∷ 5 ∷ 10 ∷ 6 ∷ 6 ∷ []
+
 -- THE BENCH: each case is what the definitions give for its call
 pub bench :
     (allGiven table ≡ table) ×
@@ -337,7 +382,8 @@ pub bench :
     (allGiven large ≡ large) ×
     (allGiven notices ≡ notices) ×
     (answers refused ≡ expectations refused) ×
-    (texts ≡ their)
+    (texts ≡ their) ×
+    (readings ≡ strides)
 unfolding
     allGiven bytesOf answers expectations pick within member start continue space isSpace isStart isContinue low high sequenceOf charOf sequenceAt decode peekAt
     valid validPrefix charsAt charsFrom takeWhile bytes runEnd frameOf body hashMarks opening closing rawLiteral same isLiteral endOf
@@ -348,5 +394,5 @@ unfolding
     missingRead placeholderRead larger argumentWants wants afterOpen afterClose stepAt stepsFrom reading argumentSlots missingSlots closingSlots stepSlots wrong
     faultsOf marked recordOf before charsIn newlines cut lineAfter endedLines lineStart gather pieces frontOnly backOnly reversed listed records
     findings found errors places literalChars toTheEnd sameSpan isLast linesIn lines countsOf isLong isBroken endsInNewline lacksNewline modeOf
-    frameFor firstOf answerBy answerOf
-bench = (refl, refl, refl, refl, refl, refl)
+    frameFor firstOf answerBy answerOf braceAt movesIn moves
+bench = (refl, refl, refl, refl, refl, refl, refl)

@@ -17,6 +17,7 @@ use Rattle.placeholder.specs.declared.Place.{Place}
 use Rattle.placeholder.specs.declared.Sign.{Sign}
 use Rattle.placeholder.specs.declared.Spec.{Spec}
 use Rattle.reading.specs.Lists.{pieces, errors, places, lines}
+use Rattle.reading.specs.Moves.{moves}
 use Rattle.reading.specs.Wants.{wants}
 use Rattle.reading.specs.Answers.{answered, frameFor, modeFor, answerOf}
 use Rattle.reading.specs.declared.Answer.{Answer}
@@ -132,9 +133,13 @@ counts p e a l = record { pieces = p; errors = e; places = a; lines = l }
 abbrev pub rooms : ℕ → ℕ → ℕ → ℕ → Rooms
 rooms p e a l = record { pieces = p; errors = e; places = a; lines = l }
 
--- done: each count is the length of its list, and the arguments are those that the pieces want
-abbrev pub done : List Piece → List ErrorRecord → List Span → List Span → Answer
-done ps es ls ns = answered 0 0 (counts (length ps) (length es) (length ls) (length ns)) (wants ps)
+-- done, after so many moves: each count is the length of its list, and the arguments are those that the pieces want
+abbrev pub done : ℕ → List Piece → List ErrorRecord → List Span → List Span → Answer
+done moves ps es ls ns = answered 0 0 (counts (length ps) (length es) (length ls) (length ns)) (wants ps) moves
+
+-- the moves of a call: the tables leave them to the definition, and `strides` of Bench has numbers of its own
+abbrev pub movesOf : List ℕ → List ℕ → Request → ℕ
+movesOf t s q = moves t (frameFor t s q) (modeFor q)
 
 -- a text of some mode, with no style and no snippet
 abbrev pub bare : ℕ → String → List Piece → List ErrorRecord → Case
@@ -143,7 +148,7 @@ bare mode t ps es =
       text = bytesOf t;
       snippet = [];
       request = ask mode Hashes.Plain false false;
-      answer = done ps es [] [];
+      answer = done (movesOf (bytesOf t) [] (ask mode Hashes.Plain false false)) ps es [] [];
       pieces = ps;
       errors = es;
       places = [];
@@ -157,7 +162,7 @@ source mode t s ps es ls ns =
       text = bytesOf t;
       snippet = bytesOf s;
       request = ask mode (Hashes.Raw 0) true false;
-      answer = done ps es ls ns;
+      answer = done (movesOf (bytesOf t) (bytesOf s) (ask mode (Hashes.Raw 0) true false)) ps es ls ns;
       pieces = ps;
       errors = es;
       places = ls;

@@ -4,9 +4,9 @@ use Prim.Native.Nat.{ℕ, suc, _+_}
 use Prim.Native.Char.{code}
 use mathlib.Core.List.{List, [], _∷_}
 use mathlib.Core.Bool.{Bool}
-use lib.Dec.{eqb, ltb}
+use lib.Dec.{eqb}
 use Rattle.utf8.specs.Choice.{pick, both}
-use Rattle.utf8.specs.Chars.{Ch, charsFrom}
+use Rattle.utf8.specs.Chars.{Ch, charsOf}
 use Rattle.letters.specs.Questions.{isSpace}
 use Rattle.frame.specs.Places.{place, spanOf}
 use Rattle.frame.specs.Spans.{toSnippet}
@@ -15,14 +15,9 @@ use Rattle.frame.specs.declared.SnippetPlace.{SnippetPlace}
 use Rattle.frame.specs.declared.Span.{Span}
 use Rattle.frame.specs.declared.Frame.{Frame}
 
--- the characters that stand before byte e
-unfoldable pub before : ℕ → List Ch → List Ch
-before e [] = []
-before e (c ∷ cs) = pick (ltb (c .at) e) (c ∷ before e cs) []
-
 -- the characters of a part of the text (R6.10)
 unfoldable pub charsIn : List ℕ → TextRange → List Ch
-charsIn t r = before (r .end .0) (charsFrom t (r .start .0))
+charsIn t r = charsOf t (r .start .0) (r .end .0)
 
 abbrev pub isNewline : Ch → Bool
 isNewline c = eqb (c .code) (code "\n")

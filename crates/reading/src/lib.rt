@@ -114,11 +114,12 @@ pub struct Rooms {
     pub lines: usize,
 }
 
-// The rules' number (0: done), the place (of 4, else 0), the records needed (of 0 and 6 to 9, else none), and how many arguments
-// the pieces want (of 0, else 0).
+// The rules' number (0: done), the place (of 4, else 0), the records needed (of 0 and 6 to 9, else none), and of 0 how many arguments
+// the pieces want and how many characters were passed, else 0.
 pub struct Answer {
     pub number: u8,
     pub place: usize,
     pub counts: Counts,
     pub arguments: usize,
+    pub moves: usize,
 }

@@ -1,19 +1,26 @@
 // The lines of each list. In full every field of a record stands in its line; in short each list stands after its count.
 use reading::Answer;
+use reading::Counts;
 use reading::ErrorRecord;
 use reading::Piece;
 
-// `answer`, the number, the place, the four counts, and the arguments.
+// `answer`, the number, the place, the four counts, the arguments and the moves.
 pub fn answer_line(out: &mut [u8], used: usize, answer: Answer) -> usize {
-    let counts = answer.counts;
     let n = listing::words(out, used, b"answer ");
     let n = listing::number(out, n, answer.number as usize);
     let n = after_space(out, n, answer.place);
-    let n = after_space(out, n, counts.pieces);
+    let n = four_counts(out, n, answer.counts);
+    let n = listing::words(out, n, b" arguments");
+    let n = after_space(out, n, answer.arguments);
+    listing::heading(out, n, b" moves ", answer.moves)
+}
+
+// The counts of the four lists.
+fn four_counts(out: &mut [u8], used: usize, counts: Counts) -> usize {
+    let n = after_space(out, used, counts.pieces);
     let n = after_space(out, n, counts.errors);
     let n = after_space(out, n, counts.places);
-    let n = after_space(out, n, counts.lines);
-    listing::heading(out, n, b" arguments ", answer.arguments)
+    after_space(out, n, counts.lines)
 }
 
 // A refusal in short: `answer`, its number and its place.

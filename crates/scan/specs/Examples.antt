@@ -5,7 +5,7 @@ use mathlib.Core.Bool.{true, false}
 use mathlib.Core.List.{[], _∷_}
 use Rattle.utf8.specs.Choice.{pick, within}
 use Rattle.utf8.specs.Utf8.{low, high, sequenceOf, sequenceAt, charOf, decode, peekAt}
-use Rattle.utf8.specs.Chars.{charsAt, charsFrom, takeWhile, bytes, runEnd}
+use Rattle.utf8.specs.Chars.{charsAt, charsFrom, takeWhile, bytes, runEnd, before}
 use Rattle.letters.specs.Table.{member}
 use Rattle.letters.specs.Space.{space}
 use Rattle.letters.specs.Start.{start}
@@ -77,18 +77,18 @@ numbers = (refl, refl, refl, refl)
 
 -- counts: `0$` is argument 0's, `a$` is by name, `7}` is fixed; over range a `$` is taken too; a word without `$` is given back, and `_` keeps its flaw
 pub counts :
-    (countRead (0x30 ∷ 0x24 ∷ []) plain (place 0) ≡ counted (Count.ByArgument (Numeral.Within 0)) (place 2) Flaw.Clean) ×
+    (countRead (0x30 ∷ 0x24 ∷ []) plain (place 0) ≡ counted (Count.ByArgument (Numeral.Within 0)) (place 2) Flaw.Clean 0) ×
     (countRead (0x61 ∷ 0x24 ∷ []) plain (place 0) ≡
-    counted (Count.ByName (range 0 1) (spanOf (snippet 1) (snippet 2))) (place 2) Flaw.Clean) ×
-    (countRead (0x37 ∷ 0x7D ∷ []) plain (place 0) ≡ counted (Count.Fixed (Numeral.Within 7)) (place 1) Flaw.Clean) ×
+    counted (Count.ByName (range 0 1) (spanOf (snippet 1) (snippet 2))) (place 2) Flaw.Clean 0) ×
+    (countRead (0x37 ∷ 0x7D ∷ []) plain (place 0) ≡ counted (Count.Fixed (Numeral.Within 7)) (place 1) Flaw.Clean 0) ×
     (countRead (0x36 ∷ 0x35 ∷ 0x35 ∷ 0x33 ∷ 0x36 ∷ 0x24 ∷ []) plain (place 0) ≡
-    counted (Count.ByArgument Numeral.Over) (place 6) (Flaw.TooLarge (range 0 5))) ×
+    counted (Count.ByArgument Numeral.Over) (place 6) (Flaw.TooLarge (range 0 5)) 0) ×
     (countRead (0x36 ∷ 0x35 ∷ 0x35 ∷ 0x33 ∷ 0x36 ∷ 0x7D ∷ []) plain (place 0) ≡
-    counted (Count.Fixed Numeral.Over) (place 5) (Flaw.TooLarge (range 0 5))) ×
-    (countRead (0x61 ∷ 0x7D ∷ []) plain (place 0) ≡ counted Count.Implied (place 0) Flaw.Clean) ×
-    (countRead (0x5F ∷ 0x7D ∷ []) plain (place 0) ≡ counted Count.Implied (place 0) (Flaw.Underscore (range 0 1)))
+    counted (Count.Fixed Numeral.Over) (place 5) (Flaw.TooLarge (range 0 5)) 0) ×
+    (countRead (0x61 ∷ 0x7D ∷ []) plain (place 0) ≡ counted Count.Implied (place 0) Flaw.Clean 1) ×
+    (countRead (0x5F ∷ 0x7D ∷ []) plain (place 0) ≡ counted Count.Implied (place 0) (Flaw.Underscore (range 0 1)) 1)
 unfolding
     countRead numberCount nameCount isEmpty spanBetween startOf toSnippet consumed numberRead numberFrom digitsAt isDigit decimal numeral wordRead
     wordEnd isUnderscore isAt peekAt decode charOf sequenceAt sequenceOf low high within pick runEnd charsFrom charsAt takeWhile bytes isStart
-    isContinue member start continue
+    isContinue member start continue before
 counts = (refl, refl, refl, refl, refl, refl, refl)

@@ -5,4 +5,5 @@ pub mod Words
 pub mod Wrapping
 pub mod Counts
 pub mod ScanLaws
+pub mod ReachLaws
 pub mod Examples

@@ -76,10 +76,12 @@ pub enum Count {
     ByStar(usize),
 }
 
+// `given`: how many characters were read for it and given back.
 pub struct CountRead {
     pub count: Count,
     pub at: TextPlace,
     pub flaw: Flaw,
+    pub given: usize,
 }
 
 // Whether the character at a place is the ASCII character `c`. No other character has a byte below 80 (hex), so one byte tells.
@@ -389,12 +391,14 @@ fn number_count(text: &[u8], value: Numeral, at: TextPlace, flaw: Flaw) -> Count
             count: Count::ByArgument(value),
             at: end,
             flaw,
+            given: 0,
         };
     }
     CountRead {
         count: Count::Fixed(value),
         at,
         flaw,
+        given: 0,
     }
 }
 
@@ -412,6 +416,7 @@ fn name_count(text: &[u8], frame: Frame, at: TextPlace) -> CountRead
             count: Count::Implied,
             at,
             flaw,
+            given: 0,
         };
     }
     let dollar = consume(text, end, b'$');
@@ -422,12 +427,14 @@ fn name_count(text: &[u8], frame: Frame, at: TextPlace) -> CountRead
             count: Count::ByName(name, span),
             at: past,
             flaw,
+            given: 0,
         };
     }
     CountRead {
         count: Count::Implied,
         at,
         flaw,
+        given: utf8::chars_between(text, at.0, end.0),
     }
 }
 

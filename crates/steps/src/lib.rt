@@ -12,6 +12,7 @@ ghost use mathlib.Core.Path.{_≡_};
 ghost use Prim.Native.Nat.{_<_};
 ghost use Rattle.frame.specs.Bounds.{Small};
 ghost use Rattle.reading.specs.Steps.{afterOpen, afterClose, stepAt, onward};
+ghost use Rattle.laws.specs.MoveLaws.{givenBy};
 ghost use Rattle.laws.specs.Numbered.{Few};
 
 pub mod text; // text.rt: a literal's bytes
@@ -104,5 +105,17 @@ pub fn go_on(state: State, step: Step) -> Onward
                 arguments: larger_of(state.arguments, own),
             })
         }
+    }
+}
+
+// What a step gave back.
+pub fn given_by(step: Step) -> usize
+    ensures { λ r. ⌜ r ≡ givenBy step ⌝ }
+{
+    match step {
+        Step::End => 0,
+        Step::Stop(_) => 0,
+        Step::Literal(_) => 0,
+        Step::Placeholder(read) => read.given,
     }
 }

@@ -1,4 +1,4 @@
-// How many records each list of a reading needs, and how many arguments its pieces want.
+// How many records each list of a reading needs, how many arguments its pieces want, and how many characters it passes.
 use closing::recover::Gap;
 use closing::recover::Hint;
 use closing::recover::Recovery;
@@ -24,12 +24,16 @@ ghost use Rattle.reading.specs.Faults.{flawFault, hintFault, argumentSlots, mis
 ghost use Rattle.reading.specs.Lines.{charsIn, newlines};
 ghost use Rattle.reading.specs.Lists.{pieces, countsOf};
 ghost use Rattle.reading.specs.Wants.{wants};
+ghost use Rattle.reading.specs.Moves.{moves};
+ghost use Rattle.utf8.specs.Chars.{charsFrom};
+ghost use Rattle.laws.specs.MoveLaws.{movesTold};
 ghost use Rattle.laws.specs.Counting.{Countable, sum, pieceCount, placeCount, closingLines, lineCount, stepCounts};
 
-// How many records, and how many arguments.
+// How many records, how many arguments, and how many moves.
 pub struct Tallied {
     pub counts: Counts,
     pub arguments: usize,
+    pub moves: usize,
 }
 
 // How many newlines stand in a part of the text.
@@ -230,10 +234,36 @@ fn add(a: Counts, b: Counts) -> Counts
     }
 }
 
-// How many records the reading of a text needs in each list; the state keeps how many arguments its pieces want.
-pub fn tally(text: &[u8], frame: Frame, mode: Mode) -> Tallied
-    requires { ⌜ Small (now text) frame ⌝ }
-    ensures { λ r. ⌜ (r .counts ≡ countsOf (now (text .entry)) frame mode) × (r .arguments ≡ wants (pieces (now (text .entry)) frame mode)) ⌝ }
+// The moves of a reading that stopped at a byte: each character before it, one more for a lone `}` there, and what was given back. Most
+// readings go to the end of the text, whose characters were counted when it was checked.
+pub fn moves_told(text: &[u8], chars: usize, stop: usize, given: usize) -> usize
+    requires { ⌜ (chars ≡ length (charsFrom (now text) 0)) × (length (now text) ≤ 65535) × (given ≤ 0xFFFFFFFFFFFF) ⌝ }
+    ensures { λ r. ⌜ r ≡ movesTold (now (text .entry)) stop given ⌝ }
+{
+    if stop < text.len() {
+        return utf8::chars_between(text, 0, stop) + 1 + given;
+    }
+    chars + given
+}
+
+// What a run came to that is over in a state.
+fn finished(text: &[u8], chars: usize, counts: Counts, state: State, given: usize) -> Tallied
+    requires { ⌜ (chars ≡ length (charsFrom (now text) 0)) × (length (now text) ≤ 65535) × (given ≤ 0xFFFFFFFFFFFF) ⌝ }
+    ensures { λ r. ⌜ r ≡ record { counts = counts; arguments = state .arguments; moves = movesTold (now (text .entry)) (state .at .0) given } ⌝ }
+{
+    let at = state.at;
+    Tallied {
+        counts,
+        arguments: state.arguments,
+        moves: moves_told(text, chars, at.0, given),
+    }
+}
+
+// How many records the reading of a text with so many characters needs in each list, and its figures; the state keeps how many arguments its
+// pieces want.
+pub fn tally(text: &[u8], chars: usize, frame: Frame, mode: Mode) -> Tallied
+    requires { ⌜ Small (now text) frame × (chars ≡ length (charsFrom (now text) 0)) ⌝ }
+    ensures { λ r. ⌜ (r .counts ≡ countsOf (now (text .entry)) frame mode) × (r .arguments ≡ wants (pieces (now (text .entry)) frame mode)) × (r .moves ≡ moves (now (text .entry)) frame mode) ⌝ }
 {
     let mut state = State {
         at: TextPlace(0),
@@ -246,16 +276,15 @@ pub fn tally(text: &[u8], frame: Frame, mode: Mode) -> Tallied
         places: 0,
         lines: 0,
     };
+    let mut given = 0;
     let mut left = text.len() + 1;
     while 0 < left {
         let step = steps::step_at(text, frame, mode, state);
         counts = add(counts, step_counts(text, frame, step));
+        given += steps::given_by(step);
         match steps::go_on(state, step) {
             Onward::Over => {
-                return Tallied {
-                    counts,
-                    arguments: state.arguments,
-                };
+                return finished(text, chars, counts, state, given);
             }
             Onward::To(after) => {
                 state = after;
@@ -263,8 +292,5 @@ pub fn tally(text: &[u8], frame: Frame, mode: Mode) -> Tallied
             }
         }
     }
-    Tallied {
-        counts,
-        arguments: state.arguments,
-    }
+    finished(text, chars, counts, state, given)
 }

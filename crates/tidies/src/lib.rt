@@ -79,7 +79,7 @@ pub fn tidy(text: &[u8], mode: u8, out: &mut [u8]) -> Tidied
     if answer.number != 0 {
         return refused(answer.number, answer.place, 0);
     }
-    let told = tally::tally(text, frame, grammar);
+    let told = tally::tally(text, first.chars, frame, grammar);
     if 0 < told.counts.errors {
         return refused(10, 0, 0);
     }

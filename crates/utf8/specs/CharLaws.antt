@@ -7,7 +7,7 @@ use mathlib.Core.List.{List, [], _∷_, _++_}
 use native.Mathlib.Nat.{add-zero, add-assoc, suc-add, add-suc}
 use native.Mathlib.Omega.{arith}
 use native.Mathlib.Numerals.{add-one}
-use borrow.Author.Tests.{ltb-true, ltb-false}
+use borrow.Author.Tests.{lt-ltb, le-ltb, ltb-true, ltb-false}
 use lib.Dec.{ltb, eqb}
 use lib.ListN.{length, getD, drop, length-drop, drop-of-length-le}
 use lib.Seq.{drop-drop}
@@ -15,7 +15,7 @@ use Rattle.utf8.specs.Choice.{pick}
 use Rattle.utf8.specs.ChoiceLaws.{pick-elim}
 use Rattle.utf8.specs.Utf8.{sequenceAt, charOf, decode, peekAt}
 use Rattle.utf8.specs.DecodeLaws.{Wide, decode-fitting, decode-sequence, sequence-bytes, ascii-sequence, char-byte, char-wide}
-use Rattle.utf8.specs.Chars.{Ch, ch, leads, charsAt, charsFrom, takeWhile, dropWhile, bytes, runEnd}
+use Rattle.utf8.specs.Chars.{Ch, ch, leads, charsAt, charsFrom, before, takeWhile, dropWhile, bytes, runEnd}
 use Rattle.utf8.specs.declared.Seen.{Seen}
 use Rattle.utf8.specs.declared.Seen.the-variants.{Char, End}
 
@@ -155,6 +155,26 @@ spelled t (c ∷ cs) i e l =
     let f = first t i c cs e in
     let p = peeked t i (f .seen) in
     omega (arith, spelled t cs (i + c .width) (f .rest) (p .room))
+
+module _ (t : List ℕ) (e i : ℕ) where
+  -- a character that is seen before byte e is the first of those before it
+  pub before-more : {c w : ℕ} → i < e → peekAt t i ≡ Char c w → before e (charsFrom t i) ≡ ch c i w ∷ before e (charsFrom t (i + w))
+  unfolding before pick
+  before-more l p = rw (peeked t i p .list, lt-ltb i e l)
+
+  -- from byte e on none stands before it
+  pub before-past : e ≤ i → before e (charsFrom t i) ≡ []
+  unfolding before pick
+  before-past l = go (charsFrom t i) refl
+    where
+      go : (cs : List Ch) → charsFrom t i ≡ cs → before e cs ≡ []
+      go [] d = refl
+      go (c ∷ cs) d = let p = first t i c cs d .place in rw (le-ltb (c .at) e (omega arith))
+
+  -- at the end of the text there is none
+  pub before-end : peekAt t i ≡ End → before e (charsFrom t i) ≡ []
+  unfolding before
+  before-end p = rw (ended t i p)
 
 module _ (f : ℕ → Bool) {t : List ℕ} {i : ℕ} where
   -- a run goes on past a character that passes the test

@@ -1,7 +1,9 @@
--- A text as a list of characters, for any bytes, and a run of characters that pass a test. Rests on Choice and Utf8.
+-- A text as a list of characters, for any bytes, those between two places, and a run of characters that pass a test. Rests on Choice
+-- and Utf8.
 use Prim.Native.Nat.{ℕ, zero, suc, pred, _+_}
 use mathlib.Core.Bool.{Bool}
 use mathlib.Core.List.{List, [], _∷_}
+use lib.Dec.{ltb}
 use lib.ListN.{drop}
 use Rattle.utf8.specs.Choice.{pick}
 use Rattle.utf8.specs.Utf8.{decode}
@@ -32,6 +34,15 @@ charsAt p (suc k) (b ∷ r) = charsAt (suc p) k r
 -- the characters of a text from place i on (R3.2)
 unfoldable pub charsFrom : List ℕ → ℕ → List Ch
 charsFrom t i = charsAt i 0 (drop i t)
+
+-- the characters that stand before byte e
+unfoldable pub before : ℕ → List Ch → List Ch
+before e [] = []
+before e (c ∷ cs) = pick (ltb (c .at) e) (c ∷ before e cs) []
+
+-- the characters from place i on that stand before byte e
+abbrev pub charsOf : List ℕ → ℕ → ℕ → List Ch
+charsOf t i e = before e (charsFrom t i)
 
 -- the characters at the start whose code passes the test, as far as they go
 unfoldable pub takeWhile : (ℕ → Bool) → List Ch → List Ch

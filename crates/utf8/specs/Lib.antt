@@ -11,3 +11,4 @@ pub mod Encode
 pub mod EncodeLaws
 pub mod Blocks
 pub mod BlockLaws
+pub mod CountLaws

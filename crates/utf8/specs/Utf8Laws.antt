@@ -3,13 +3,13 @@
 use Prim.Native.Nat.{ℕ, zero, suc, pred, _+_, _≤_, _<_}
 use mathlib.Core.Path.{_≡_, refl, sym, _∙_, ap}
 use mathlib.Core.Bool.{Bool, true, false}
-use mathlib.Core.List.{List, [], _∷_, _++_, append-assoc}
+use mathlib.Core.List.{List, [], _∷_, _++_, append-assoc, append-nil}
 use native.Mathlib.Nat.{add-zero, zero-add, add-assoc}
 use native.Mathlib.Omega.{arith}
 use borrow.Author.Tests.{lt-ltb, le-ltb, eq-eqb, ne-eqb, eqb-true, eqb-false, ltb-true, ltb-false}
 use lib.Dec.{ltb, eqb}
-use lib.ListN.{length, getD, take, drop, length-append, length-drop}
-use lib.Seq.{drop-append-seam, take-add, drop-drop}
+use lib.ListN.{length, getD, take, drop, length-append, length-drop, take-append-drop, drop-of-length-le}
+use lib.Seq.{drop-append-seam, take-add, drop-drop, take-all, length-take-le, drop-append-le}
 use Rattle.utf8.specs.Choice.{pick, within}
 use Rattle.utf8.specs.ChoiceLaws.{pick-elim, within-low, within-high, in-within}
 use Rattle.utf8.specs.Table37.{In, Row, WellFormed}
@@ -166,6 +166,26 @@ longest (more {q} {r = s} x w) r =
     let k : valid 0 (q ++ (s ++ r)) ≡ length q + valid 0 (s ++ r) = m ∙ simp (e, drop-append-seam) in
     simp (append-assoc, length-append) (omega (arith, k, longest w r))
 
+-- the sequences from a place end there or after it
+pub valid-least : (t : List ℕ) (i : ℕ) → i ≤ validEnd t i
+unfolding validEnd
+valid-least t i = omega arith
+
+-- past the end of the text there is none
+pub valid-past : (t : List ℕ) (i : ℕ) → length t ≤ i → validEnd t i ≡ i
+unfolding sequenceAt
+valid-past t i h = valid-end t i (rw (drop-of-length-le t {i = i} h) refl)
+
+-- what follows well-formed bytes counts by itself
+pub valid-well : {q : List ℕ} → WellFormed q → (r : List ℕ) → valid 0 (q ++ r) ≡ length q + valid 0 r
+valid-well none r = sym (zero-add (valid 0 r))
+valid-well (more {q} {r = s} x w) r =
+    let e = row-width x (s ++ r) in
+    let h = some-bytes x in
+    let m = valid-more (q ++ (s ++ r)) (λ z. omega arith) in
+    let k : valid 0 (q ++ (s ++ r)) ≡ length q + valid 0 (s ++ r) = m ∙ simp (e, drop-append-seam) in
+    simp (append-assoc, length-append) (omega (arith, k, valid-well w r))
+
 -- the first bytes of a list, where they are not 0
 take1 : (r : List ℕ) → 1 ≤ getD r 0 0 → take 1 r ≡ getD r 0 0 ∷ []
 take1 [] h = absurd (omega arith)
@@ -260,6 +280,48 @@ prefix-at (suc n) (b ∷ r) h = go (λ k. prefix-at n (drop (suc k) (b ∷ r)) (
 pub prefix : (t : List ℕ) → WellFormed (take (validPrefix t) t)
 unfolding validPrefix
 prefix t = prefix-at (length t) t (omega arith)
+
+-- the valid prefix is within the text
+pub valid-within : (a : List ℕ) → validPrefix a ≤ length a
+unfolding sequenceAt validPrefix
+valid-within a = go (ltb (length a) n) refl
+  where
+    n : ℕ
+    n = valid 0 a
+
+    k : n ≡ length (take n a) + valid 0 (drop n a)
+    k = ap (valid 0) (sym (take-append-drop n a)) ∙ valid-well (prefix-at (length a) a (omega arith)) (drop n a)
+
+    go : (x : Bool) → ltb (length a) n ≡ x → n ≤ length a
+    go true e =
+        let h = ltb-true (length a) n e in
+        let d : valid 0 (drop n a) ≡ 0 = rw (drop-of-length-le a {i = n} (omega arith)) (valid-stop [] refl) in
+        let t : length (take n a) ≡ length a = ap length (take-all n a (omega arith)) in
+        absurd (omega (arith, k, d, t, h))
+    go false e = let h = ltb-false (length a) n e in omega arith
+
+-- THE CHECK GOES ON from where it stood when more bytes have come
+pub valid-join : (a b : List ℕ) → validEnd (a ++ b) (validPrefix a) ≡ validPrefix (a ++ b)
+unfolding validEnd validPrefix
+valid-join a b =
+    let n : ℕ = valid 0 a in
+    let q : length (take n a) ≡ n = length-take-le n a (valid-within a) in
+    let d : drop n (a ++ b) ≡ drop n a ++ b = drop-append-le n a b (valid-within a) in
+    let s : take n a ++ (drop n a ++ b) ≡ a ++ b = sym (append-assoc (take n a) (drop n a) b) ∙ ap (λ (x : List ℕ). x ++ b) (take-append-drop n a) in
+    let w = valid-well (prefix-at (length a) a (omega arith)) (drop n a ++ b) in
+    ap (λ (x : List ℕ). n + valid 0 x) d ∙ ap (λ (m : ℕ). m + valid 0 (drop n a ++ b)) (sym q) ∙ sym w ∙ ap (valid 0) s
+
+-- well-formed bytes, one list after another
+pub well-join : {a b : List ℕ} → WellFormed a → WellFormed b → WellFormed (a ++ b)
+well-join none w = w
+well-join {b = b} (more {q} {r} x v) w = rw (append-assoc q r b) (more x (well-join v w))
+
+-- well-formed bytes are valid to their end
+pub well-valid : {t : List ℕ} → WellFormed t → validPrefix t ≡ length t
+unfolding validPrefix valid
+well-valid {t} w =
+    let e : valid 0 (t ++ []) ≡ length t + 0 = valid-well w [] in
+    ap (valid 0) (sym (append-nil t)) ∙ e ∙ add-zero (length t)
 
 -- each character is the well-formed sequence at its place
 abbrev pub Real : List ℕ → List Ch → Type 0

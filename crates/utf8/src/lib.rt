@@ -1,10 +1,13 @@
-// UTF-8 at any place of any bytes: the character there, and the longest valid prefix.
+// UTF-8 at any place of any bytes: the character there, the check of a text, which goes on from where it stood, and how many characters stand between two places.
 ghost use mathlib.Core.Path.{_≡_};
-ghost use Prim.Native.Nat.{_+_, _≤_};
+ghost use mathlib.Core.Logic.{_⊎_};
+ghost use Prim.Native.Nat.{_+_, _-_, _≤_, _<_};
 ghost use lib.ListN.{length, getD, drop};
 ghost use Rattle.utf8.specs.Choice.{within};
 ghost use Rattle.utf8.specs.Utf8.{low, high, code2, code3, code4, sequenceOf, sequenceAt, charOf, peekAt, validPrefix};
 ghost use Rattle.utf8.specs.Utf8Laws.{validEnd};
+ghost use Rattle.utf8.specs.Chars.{charsOf};
+ghost use Rattle.utf8.specs.CountLaws.{Passed};
 ghost use Rattle.utf8.specs.Blocks.{one, howMany, isHigh};
 
 // What stands at a place of a text: a character with its width in bytes, or nothing, past the end.
@@ -17,6 +20,12 @@ pub enum Seen {
 pub struct Sequence {
     pub code: u32,
     pub width: usize,
+}
+
+// How far a check came: the place up to which the bytes are UTF-8, and how many characters it passed.
+pub struct Checked {
+    pub valid: usize,
+    pub chars: usize,
 }
 
 // The character at `at`. Bytes that are not UTF-8 are U+FFFD, one byte wide.
@@ -40,25 +49,90 @@ pub fn peek(text: &[u8], at: usize) -> Seen
 pub fn valid_prefix(text: &[u8]) -> usize
     ensures { λ r. ⌜ r ≡ validPrefix (now (text .entry)) ⌝ }
 {
-    let mut i = 0;
+    check_from(text, 0).valid
+}
+
+// The check of a text: its longest prefix that is UTF-8, and the characters there.
+pub fn check(text: &[u8]) -> Checked
+    ensures { λ r. ⌜ (r .valid ≡ validPrefix (now (text .entry))) × (r .chars ≡ length (charsOf (now (text .entry)) 0 (validPrefix (now (text .entry))))) ⌝ }
+{
+    check_from(text, 0)
+}
+
+// The check goes on at `at`, where it stood: to where the well-formed sequences from there end, with the characters that it passed.
+pub fn check_from(text: &[u8], at: usize) -> Checked
+    ensures { λ r. ⌜ (r .valid ≡ validEnd (now (text .entry)) at) × (r .chars ≡ length (charsOf (now (text .entry)) at (validEnd (now (text .entry)) at))) ⌝ }
+{
+    let n = text.len();
+    if n < at {
+        return Checked {
+            valid: at,
+            chars: 0,
+        };
+    }
+    let mut i = at;
+    let mut chars = 0;
     loop {
-        i = ascii_end(text, i);
-        let s = sequence_at(text, i);
+        let j = ascii_end(text, i, n);
+        chars += j - i;
+        let s = sequence_at(text, j);
         let w = s.width;
         if w == 0 {
-            return i;
+            return Checked { valid: j, chars };
         }
-        i += w;
+        chars += 1;
+        i = j + w;
     }
 }
 
-// The place after the blocks of sixteen ASCII bytes at `at`. A block is one test, so a text of plain letters is passed at its speed.
-fn ascii_end(text: &[u8], at: usize) -> usize
-    requires { ⌜ at ≤ length (now text) ⌝ }
-    ensures { λ r. ⌜ (at ≤ r) × (r ≤ length (now (text .entry))) × (validEnd (now (text .entry)) r ≡ validEnd (now (text .entry)) at) ⌝ }
+// How many characters from `at` on stand before byte `end`, whatever the bytes are.
+pub fn chars_between(text: &[u8], at: usize, end: usize) -> usize
+    ensures { λ r. ⌜ (r ≡ length (charsOf (now (text .entry)) at end)) × (r ≤ length (now (text .entry))) ⌝ }
+{
+    let n = text.len();
+    if n < at {
+        return 0;
+    }
+    let stop = least(end, n);
+    let mut i = at;
+    let mut chars = 0;
+    loop {
+        let j = ascii_end(text, i, stop);
+        chars += j - i;
+        if stop <= j {
+            return chars;
+        }
+        chars += 1;
+        i = j + width_at(text, j);
+    }
+}
+
+// The width of the character at `at`, which stands within the text.
+fn width_at(text: &[u8], at: usize) -> usize
+    requires { ⌜ at < length (now text) ⌝ }
+    ensures { λ r. ⌜ (1 ≤ r) × (at + r ≤ length (now (text .entry))) × Passed (now (text .entry)) at r ⌝ }
+{
+    let s = sequence_at(text, at);
+    let w = s.width;
+    if w == 0 {
+        return 1;
+    }
+    w
+}
+
+fn least(x: usize, y: usize) -> usize
+    ensures { λ r. ⌜ (r ≤ x) × (r ≤ y) × ((x ≤ r) ⊎ (y ≤ r)) ⌝ }
+{
+    if x < y { x } else { y }
+}
+
+// The place after the blocks of sixteen ASCII bytes at `at` that end by `stop`. A block is one test, so a text of plain letters is passed at its speed.
+fn ascii_end(text: &[u8], at: usize, stop: usize) -> usize
+    requires { ⌜ (at ≤ length (now text)) × (stop ≤ length (now text)) ⌝ }
+    ensures { λ r. ⌜ (at ≤ r) × (r ≤ length (now (text .entry))) × ((r ≡ at) ⊎ (r ≤ stop)) × (howMany isHigh (now (text .entry)) at (r - at) ≡ 0) ⌝ }
 {
     let mut i = at;
-    while i + 16 <= text.len() {
+    while i + 16 <= stop {
         if highs(text, i) + highs(text, i + 8) != 0 {
             return i;
         }

@@ -47,13 +47,13 @@ piecesIn t f m = gather pieceWords (pieces t f m)
 unfoldable pub errorsIn : List ℕ → Frame → Mode → List ℕ
 errorsIn t f m = gather errorWords (errors t f m)
 
--- an answer as seven numbers (R9.3)
+-- an answer as eight numbers (R9.3)
 unfoldable pub answerWords : Answer → List ℕ
-answerWords a = a .number ∷ a .place ∷ a .counts .pieces ∷ a .counts .errors ∷ a .counts .places ∷ a .counts .lines ∷ a .arguments ∷ []
+answerWords a = a .number ∷ a .place ∷ a .counts .pieces ∷ a .counts .errors ∷ a .counts .places ∷ a .counts .lines ∷ a .arguments ∷ a .moves ∷ []
 
 -- the answer's list is too short for them (R9.4)
 unfoldable pub isShort : List ℕ → Bool
-isShort out = ltb (length out) 7
+isShort out = ltb (length out) 8
 
 -- A CALL: its number, and its lists before and after it, refused calls too (R9.1 to R9.4)
 pub record Exported (t s : List ℕ) (q : Request) (ps ps′ es es′ ls ls′ ns ns′ out out′ : List ℕ) (r : ℕ) : Type 0 where

@@ -13,6 +13,7 @@ use Rattle.closing.specs.declared.whole.PlaceholderRead.{PlaceholderRead}
 use Rattle.reading.specs.Faults.{stepSlots, wrong, marked}
 use Rattle.reading.specs.Lists.{gather}
 use Rattle.laws.specs.ListLaws.{gather-one}
+use Rattle.laws.specs.MoveLaws.{givenBy}
 use Rattle.reading.specs.Steps.{stepAt, onward}
 use Rattle.reading.specs.declared.Onward.{Onward}
 use Rattle.reading.specs.declared.Piece.{Piece}
@@ -65,8 +66,9 @@ module _ (t : List ℕ) (f : Frame) {m : Extent} {ps es : List ℕ} where
 
 -- WHERE READING GOES ON: as it does after the step
 module _ (t : List ℕ) (f : Frame) (m : Mode) (s : State) {x : Step} (e : x ≡ stepAt t f m s) {k r : Extent} {ps es ps′ es′ : List ℕ} (w : Stepped t f x k ps es r ps′ es′) where
-  pub stepped-on : {a : State} → onward s x ≡ Onward.To a → SteppedOn t f m s k ps es (record { more = true; state = a; extent = r }) ps′ es′
-  stepped-on g = record { stepped = rw (← e) w; on = λ _. rw (← e) g; over = λ y. absurd (true≢false y) }
+  module _ {g : ℕ} (b : g ≡ givenBy x) where
+    pub stepped-on : {a : State} → onward s x ≡ Onward.To a → SteppedOn t f m s k ps es (record { more = true; state = a; extent = r; given = g }) ps′ es′
+    stepped-on o = record { stepped = rw (← e) w; on = λ _. rw (← e) o; over = λ y. absurd (true≢false y); given = rw (← e) b }
 
-  pub stepped-over : (a : State) → onward s x ≡ Onward.Over → SteppedOn t f m s k ps es (record { more = false; state = a; extent = r }) ps′ es′
-  stepped-over a g = record { stepped = rw (← e) w; on = λ y. absurd (true≢false (sym y)); over = λ _. rw (← e) g }
+    pub stepped-over : (a : State) → onward s x ≡ Onward.Over → SteppedOn t f m s k ps es (record { more = false; state = a; extent = r; given = g }) ps′ es′
+    stepped-over a o = record { stepped = rw (← e) w; on = λ y. absurd (true≢false (sym y)); over = λ _. rw (← e) o; given = rw (← e) b }

@@ -12,6 +12,7 @@ use Rattle.reading.specs.Faults.{stepSlots, wrong, Finding, marked}
 use Rattle.reading.specs.Lists.{gather, piecesOf, frontOnly, backOnly}
 use Rattle.reading.specs.Records.{isFront, recordOf}
 use Rattle.reading.specs.Steps.{stepAt, onward}
+use Rattle.laws.specs.MoveLaws.{givenBy}
 use Rattle.reading.specs.declared.ErrorRecord.{ErrorRecord}
 use Rattle.reading.specs.declared.Fault.{Fault}
 use Rattle.reading.specs.declared.Onward.{Onward}
@@ -111,3 +112,4 @@ pub record SteppedOn (t : List ℕ) (f : Frame) (m : Mode) (s : State) (k : Exte
   pub stepped : Stepped t f (stepAt t f m s) k ps es (r .extent) ps′ es′
   pub on : r .more ≡ true → onward s (stepAt t f m s) ≡ Onward.To (r .state)
   pub over : r .more ≡ false → onward s (stepAt t f m s) ≡ Onward.Over
+  pub given : r .given ≡ givenBy (stepAt t f m s)

@@ -29,11 +29,12 @@ pub struct Extent {
     pub fronts: usize,
 }
 
-// Whether reading goes on, where it stands, and what is written.
+// Whether reading goes on, where it stands, what is written, and how many characters the step gave back.
 pub struct StepWritten {
     pub more: bool,
     pub state: State,
     pub extent: Extent,
+    pub given: usize,
 }
 
 // A fault's record as the n-th, where so many pieces were listed.
@@ -153,16 +154,19 @@ pub fn write_step(
 {
     let step = steps::step_at(text, frame, mode, state);
     let after = put_step(text, frame, step, pieces, errors, extent);
+    let given = steps::given_by(step);
     match steps::go_on(state, step) {
         Onward::Over => StepWritten {
             more: false,
             state,
             extent: after,
+            given,
         },
         Onward::To(on) => StepWritten {
             more: true,
             state: on,
             extent: after,
+            given,
         },
     }
 }

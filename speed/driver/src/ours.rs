@@ -49,13 +49,13 @@ pub fn verdict(text: &[u8]) -> [usize; 4] {
 pub struct Reader {
     pieces: Vec<u32>,
     errors: Vec<u32>,
-    answer: [usize; 7],
+    answer: [usize; 8],
 }
 
 impl Reader {
     /// Lists with room for a record a byte.
     pub fn new(bytes: usize) -> Self {
-        Reader { pieces: vec![0; 40 * bytes], errors: vec![0; 16 * bytes], answer: [0; 7] }
+        Reader { pieces: vec![0; 40 * bytes], errors: vec![0; 16 * bytes], answer: [0; 8] }
     }
 
     /// Reads a Format text without style or snippet: the answer's number, and how many pieces and errors there are.
@@ -83,7 +83,7 @@ impl Reader {
                 nothing.as_mut_ptr(),
                 0,
                 self.answer.as_mut_ptr(),
-                7,
+                8,
             )
         };
         (number, self.answer[2], self.answer[3])

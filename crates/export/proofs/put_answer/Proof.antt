@@ -1,9 +1,9 @@
--- `export::put_answer` meets its contract: seven numbers are set, one after the other.
+-- `export::put_answer` meets its contract: eight numbers are set, one after the other.
 use borrow.Author.Needs.{needs}
 use native.Mathlib.Omega.{arith}
 use denote.Ref.{now}
 use lib.ListN.{length-set}
-use Rattle.export.proofs.Listing.{seven}
+use Rattle.export.proofs.Listing.{eight}
 use Rattle.export.proofs.put_answer.Statement.{statement}
 use Rattle.export.proofs.put_answer.Tie as tie
 
@@ -31,11 +31,14 @@ slice-write-out-6 c = simp length-set (omega arith)
 slice-write-out-7 : tie.Need-slice-write-out-7
 slice-write-out-7 c = simp length-set (omega arith)
 
+slice-write-out-8 : tie.Need-slice-write-out-8
+slice-write-out-8 c = simp length-set (omega arith)
+
 same-length : tie.Need-same-length
 same-length c = search needs
 
 returns : tie.Need-returns
-returns c = seven (now (c .before .before .args .out)) (c .before .before .args .answer) (c .before .before .pre)
+returns c = eight (now (c .before .before .args .out)) (c .before .before .args .answer) (c .before .before .pre)
 
 pub put-answer-spec : {M : Type 1} → statement M
 put-answer-spec =
@@ -49,5 +52,6 @@ put-answer-spec =
     slice-write-out-5
     slice-write-out-6
     slice-write-out-7
+    slice-write-out-8
     same-length
     returns)

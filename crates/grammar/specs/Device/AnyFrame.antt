@@ -76,25 +76,25 @@ blind h k s x y e = s x ∙ (ap k e ∙ sym (s y))
 
 -- what the parts give, without spans
 abbrev countOf : CountRead → CountRead
-countOf r = record { count = S.count (r .count); at = r .at; flaw = r .flaw }
+countOf r = record { count = S.count (r .count); at = r .at; flaw = r .flaw; given = r .given }
 
 abbrev fillOf : FillRead → FillRead
 fillOf r = record { fill = S.fill (r .fill); at = r .at }
 
 abbrev widthOf : WidthRead → WidthRead
-widthOf r = record { zero = r .zero; width = S.count (r .width); span = S.maybe (r .span); at = r .at; flaw = r .flaw }
+widthOf r = record { zero = r .zero; width = S.count (r .width); span = S.maybe (r .span); at = r .at; flaw = r .flaw; given = r .given }
 
 abbrev precisionOf : PrecisionRead → PrecisionRead
-precisionOf r = record { precision = S.count (r .precision); span = S.maybe (r .span); at = r .at; next = r .next; flaw = r .flaw }
+precisionOf r = record { precision = S.count (r .precision); span = S.maybe (r .span); at = r .at; next = r .next; flaw = r .flaw; given = r .given }
 
 abbrev typeOf : TypeRead → TypeRead
 typeOf r = record { hex = r .hex; typetext = r .typetext; span = S.maybe (r .span); at = r .at; flaw = r .flaw }
 
 abbrev specOf : SpecRead → SpecRead
-specOf r = record { spec = S.spec (r .spec); at = r .at; next = r .next; width = r .width; precision = r .precision; typetext = r .typetext }
+specOf r = record { spec = S.spec (r .spec); at = r .at; next = r .next; width = r .width; precision = r .precision; typetext = r .typetext; given = r .given }
 
 abbrev argumentOf : ArgumentRead → ArgumentRead
-argumentOf r = record { place = r .place; from = r .from; to = r .to; spec = S.spec (r .spec); at = r .at; next = r .next; flaws = r .flaws }
+argumentOf r = record { place = r .place; from = r .from; to = r .to; spec = S.spec (r .spec); at = r .at; next = r .next; flaws = r .flaws; given = r .given }
 
 -- a count is implied or not, whatever its span
 count-implied : (c : Count) → isImplied c ≡ isImplied (S.count c)
@@ -137,8 +137,9 @@ module _ (t : List ℕ) (f g : Frame) where
       let c : S.count (x .count) ≡ S.count (y .count) = ap (λ r. r .count) e in
       let p : x .at ≡ y .at = ap (λ r. r .at) e in
       let w : x .flaw ≡ y .flaw = ap (λ r. r .flaw) e in
+      let b : x .given ≡ y .given = ap (λ r. r .given) e in
       let i : isImplied (x .count) ≡ isImplied (y .count) = blind S.count isImplied count-implied (x .count) (y .count) c in
-      simp (maybe-pick, i, c, p, w)
+      simp (maybe-pick, i, c, p, w, b)
 
   width-any : (at : TextPlace) → widthOf (widthRead t f at) ≡ widthOf (widthRead t g at)
   unfolding widthRead
@@ -152,7 +153,8 @@ module _ (t : List ℕ) (f g : Frame) where
       let c : S.count (countRead t f q .count) ≡ S.count (countRead t g q .count) = ap (λ r. r .count) e in
       let p : countRead t f q .at ≡ countRead t g q .at = ap (λ r. r .at) e in
       let w : countRead t f q .flaw ≡ countRead t g q .flaw = ap (λ r. r .flaw) e in
-      pick-same precisionOf _ (pick-same precisionOf _ refl (rw (c, p, w))) refl
+      let b : countRead t f q .given ≡ countRead t g q .given = ap (λ r. r .given) e in
+      pick-same precisionOf _ (pick-same precisionOf _ refl (rw (c, p, w, b))) refl
 
   word-any : (at : TextPlace) → typeOf (wordType t f at) ≡ typeOf (wordType t g at)
   unfolding wordType
@@ -198,6 +200,7 @@ module _ (t : List ℕ) (f g : Frame) where
         width = w x .flaw;
         precision = k x .flaw;
         typetext = y x .flaw;
+        given = w x .given + k x .given;
       })
 
   -- THE SPEC OF EACH MODE
@@ -247,7 +250,7 @@ because-same (Fill.Present c s) from brace = refl
 
 -- a placeholder and a step, without spans
 abbrev placeholderOf : PlaceholderRead → PlaceholderRead
-placeholderOf r = record { argument = S.argument (r .argument); text = r .text; flaws = r .flaws; closing = r .closing; at = r .at; next = r .next }
+placeholderOf r = record { argument = S.argument (r .argument); text = r .text; flaws = r .flaws; closing = r .closing; at = r .at; next = r .next; given = r .given }
 
 abbrev stepOf : Step → Step
 stepOf Step.End = Step.End
@@ -270,8 +273,8 @@ module _ (t : List ℕ) (f g : Frame) (m : Mode) where
       recover-table t f m from i at n ∙ (e ∙ sym (recover-table t g m from i at n))
 
   -- A WHOLE PLACEHOLDER, of an argument without spans
-  abbrev whole : TextPlace → ArgumentRead → Closing → TextPlace → ℕ → PlaceholderRead
-  whole brace a closing at n =
+  abbrev whole : TextPlace → ArgumentRead → Closing → TextPlace → ℕ → ℕ → PlaceholderRead
+  whole brace a closing at n given =
       record {
         argument = record { place = a .place; placespan = S.anywhere; spec = a .spec; range = rangeOf brace at };
         text = textTaken m (a .spec .typetext);
@@ -279,6 +282,7 @@ module _ (t : List ℕ) (f g : Frame) (m : Mode) where
         closing = closing;
         at = at;
         next = n;
+        given = given;
       }
 
   -- where an argument ends, whitespace past
@@ -301,7 +305,7 @@ module _ (t : List ℕ) (f g : Frame) (m : Mode) where
   missing-any brace x y e =
       let why = blind argumentOf (whyOf brace) (λ a. because-same (a .spec .fill) (pastAt t (a .to)) brace) x y e in
       let on : goes f x ≡ goes g y = blind argumentOf (goes f) goes-same x y e ∙ recover-any _ _ _ _ in
-      λ i. whole brace (e i) (Closing.Missing (gapAt t (endOf (e i)) (why i)) (on i)) (on i .at) (on i .next)
+      λ i. whole brace (e i) (Closing.Missing (gapAt t (endOf (e i)) (why i)) (on i)) (on i .at) (on i .next) (e i .given + on i .given)
 
   placeholder-any : (brace at : TextPlace) (n : ℕ) →
       placeholderOf (placeholderRead t f m brace at n) ≡ placeholderOf (placeholderRead t g m brace at n)
@@ -309,7 +313,7 @@ module _ (t : List ℕ) (f g : Frame) (m : Mode) where
   placeholder-any brace at n =
       let e = argument-any t f g m at n in
       pick-agree placeholderOf _ _ (ap (λ a. consumed t (endOf a) 0x7D .ate) e)
-      (ap (λ a. whole brace a (Closing.Closed (endOf a)) (consumed t (endOf a) 0x7D .at) (a .next)) e)
+      (ap (λ a. whole brace a (Closing.Closed (endOf a)) (consumed t (endOf a) 0x7D .at) (a .next) (a .given)) e)
       (missing-any brace (argumentRead t f m at n) (argumentRead t g m at n) e)
 
   -- STEPS

@@ -210,7 +210,7 @@ module _ (t : List ℕ) (f : Frame) where
       (λ l. rw (not-empty at c r, consume-no t e 0x24 (d ∷ u) k l, l, nameOf) (record { stands = h; clean = w; found = λ z. refl }))
 
   no-count : (at : TextPlace) (cs : List ℕ) → Stands t (at .0) cs → Stops isDigit cs → Stops isStart cs →
-      countRead t f at ≡ counted Count.Implied at Flaw.Clean
+      countRead t f at ≡ counted Count.Implied at Flaw.Clean 0
   unfolding countRead nameCount pick
   no-count at cs h d s = cc (number-none t at cs h d, word-none t at cs h s, empty at)
 

@@ -14,6 +14,7 @@ use Rattle.frame.specs.Frames.{frameOf, isLiteral}
 use Rattle.frame.specs.declared.Mode.{Mode}
 use Rattle.frame.specs.declared.Style.{Style}
 use Rattle.reading.specs.Lists.{pieces, errors, places, lines, countsOf}
+use Rattle.reading.specs.Moves.{moves}
 use Rattle.reading.specs.Wants.{wants}
 use Rattle.reading.specs.Answers.{answered, isStyled, isLong, endsInNewline, lacksNewline, styleOf, frameFor, modeFor, answerOf}
 use Rattle.reading.specs.Written.{over}
@@ -157,10 +158,11 @@ not-long t s given l e = rw (le-ltb 65535 (length t) l, e)
 pub joined-answer : (t u s w : List ℕ) (q : Request) (r k : Rooms) (xs : List Piece) → WellFormed (t ++ u) → length (t ++ u) ≤ 65535 → q .given ≡ false →
     answerOf u w q k .number ≡ 0 → pieces (t ++ u) (frameFor (t ++ u) s q) (modeFor q) ≡ xs → errors (t ++ u) (frameFor (t ++ u) s q) (modeFor q) ≡ [] →
     let short = ltb (r .pieces) (length xs) in
-    answerOf (t ++ u) s q r ≡ answered (pick short 6 0) 0 (piecesOnly (length xs)) (pick short 0 (wants xs))
+    answerOf (t ++ u) s q r ≡
+    answered (pick short 6 0) 0 (piecesOnly (length xs)) (pick short 0 (wants xs)) (pick short 0 (moves (t ++ u) (frameFor (t ++ u) s q) (modeFor q)))
 unfolding countedAnswer pick
 joined-answer t u s w q r k xs v l e z p n =
     let x = tests u w q k z in
     let counts = counts-only (t ++ u) s q xs e p n in
     answer-decided (t ++ u) s q r
-    ∙ rw (x .0, x .1, not-long (t ++ u) s (q .given) l e, broken-exactly (t ++ u) .1 v, lacks-append t u (q .newline) (x .2), counts, room-only (length xs) r, p, said-room (ltb (r .pieces) (length xs)) (wants xs))
+    ∙ rw (x .0, x .1, not-long (t ++ u) s (q .given) l e, broken-exactly (t ++ u) .1 v, lacks-append t u (q .newline) (x .2), counts, room-only (length xs) r, p, said-room (ltb (r .pieces) (length xs)) (wants xs), said-room (ltb (r .pieces) (length xs)) (moves (t ++ u) (frameFor (t ++ u) s q) (modeFor q)))

@@ -17,6 +17,7 @@ returns c =
       precise = c .nothing2 .ensures;
       typed = refl;
       ends = refl;
+      given = refl;
     }
 
 pub no-spec-spec : {M : Type 1} → statement M

@@ -28,12 +28,22 @@ returns-2 c =
     let e = d .before .before in
     rw (← e .before .before .before .word .ensures, ← e .is-empty .ensures, d .before .if1 .left, ← d .consume .ensures, c .before .if2 .taken, ← c .span-between .ensures)
 
+chars-between-requires : tie.Need-chars-between-requires
+chars-between-requires c κs = search needs
+
 returns-3 : tie.Need-returns-3
 unfolding nameCount pick
 returns-3 c =
-    let d = c .before .before in
+    let d = c .before .before .before in
     let e = d .before .before in
-    rw (← e .before .before .before .word .ensures, ← e .is-empty .ensures, d .before .if1 .left, ← d .consume .ensures, c .if2 .left)
+    rw (
+      ← e .before .before .before .word .ensures,
+      ← e .is-empty .ensures,
+      d .before .if1 .left,
+      ← d .consume .ensures,
+      c .before .if2 .left,
+      ← c .chars-between .ensures .0,
+    )
 
 pub name-count-spec : {M : Type 1} → statement M
-name-count-spec = tie.close (tie.spec word-requires is-empty-requires returns consume-requires span-between-requires returns-2 returns-3)
+name-count-spec = tie.close (tie.spec word-requires is-empty-requires returns consume-requires span-between-requires returns-2 chars-between-requires returns-3)

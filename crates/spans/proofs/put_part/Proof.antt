@@ -6,10 +6,9 @@ use native.Mathlib.Omega.{arith}
 use mathlib.Core.Path.{sym, _∙_}
 use mathlib.Core.List.{[], _∷_}
 use denote.Ref.{now}
-use Rattle.utf8.specs.Chars.{ch, charsFrom}
-use Rattle.utf8.specs.CharLaws.{peeked}
-use Rattle.reading.specs.Lines.{before, charsIn}
-use Rattle.laws.specs.LineLaws.{before-more, before-past, before-end}
+use Rattle.utf8.specs.Chars.{ch, charsFrom, before}
+use Rattle.utf8.specs.CharLaws.{peeked, before-more, before-past, before-end}
+use Rattle.reading.specs.Lines.{charsIn}
 use Rattle.spans.proofs.Lining.{Lining, lining-first, lining-done, lining-room, lining-on}
 use Rattle.spans.proofs.put_part.Statement.{statement}
 use Rattle.spans.proofs.put_part.Tie as tie

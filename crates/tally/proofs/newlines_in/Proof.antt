@@ -8,11 +8,11 @@ use native.Mathlib.Omega.{arith}
 use lib.ListN.{length}
 use denote.Ref.{now}
 use Rattle.utf8.specs.Utf8.{peekAt}
-use Rattle.utf8.specs.Chars.{charsFrom}
-use Rattle.utf8.specs.CharLaws.{peeked}
+use Rattle.utf8.specs.Chars.{charsFrom, before}
+use Rattle.utf8.specs.CharLaws.{peeked, before-past, before-end}
 use Rattle.utf8.specs.declared.Seen.the-variants.{Char}
-use Rattle.reading.specs.Lines.{before, charsIn, newlines}
-use Rattle.laws.specs.LineLaws.{before-past, before-end, newlines-one, newlines-other}
+use Rattle.reading.specs.Lines.{charsIn, newlines}
+use Rattle.laws.specs.LineLaws.{newlines-one, newlines-other}
 use Rattle.tally.proofs.newlines_in.Statement.{statement}
 use Rattle.tally.proofs.newlines_in.Tie as tie
 

@@ -18,7 +18,9 @@ returns : tie.Need-returns
 returns c = early _ _ (c .before .before .before .before .before .opened .ensures) (c .before .if1 .taken) (c .refused .ensures)
 
 tally-requires : tie.Need-tally-requires
-tally-requires c κs = opened-small _ _ _ (c .before .before .before .before .opened .ensures) (c .if1 .left)
+tally-requires c κs =
+    let opened = c .before .before .before .before .opened .ensures in
+    (opened-small _ _ _ opened (c .if1 .left), opened .chars (c .if1 .left))
 
 refused-requires-2 : tie.Need-refused-requires-2
 refused-requires-2 c κs = search needs

@@ -1,20 +1,21 @@
 //! The answer to a case: refusals 1 to 9 (docs/RULES.md, section 2), or else what the Rust reads.
 
 use crate::case::{Case, LARGEST_ROOM};
-use crate::reading::Reading;
+use crate::reading::{Reading, moves_of};
 
 /// The largest numbers that are not refused.
 const MOST_HASHES: u16 = 255;
 const LONGEST_TEXT: usize = 65_535;
 const LONGEST_SNIPPET: usize = 66_048;
 
-/// The number (0 for done), the place, the counts, how many arguments the pieces want (0 if
-/// refused), and the records if done.
+/// The number (0 for done), the place, the counts, how many arguments the pieces want and how many
+/// characters were passed (0 if refused), and the records if done.
 pub struct Answer<'t> {
     pub number: u8,
     pub place: usize,
     pub counts: [usize; 4],
     pub arguments: usize,
+    pub moves: usize,
     pub reading: Option<Reading<'t>>,
 }
 
@@ -24,7 +25,7 @@ impl<'t> Answer<'t> {
         let text = match readable_text(case) {
             Ok(text) => text,
             Err((number, place)) => {
-                return Answer { number, place, counts: [0; 4], arguments: 0, reading: None };
+                return Answer::refused(number, place, [0; 4]);
             }
         };
         let reading = Reading::of(case, text);
@@ -32,10 +33,16 @@ impl<'t> Answer<'t> {
         match short_list(&counts, &case.rooms) {
             None => {
                 let arguments = reading.arguments();
-                Answer { number: 0, place: 0, counts, arguments, reading: Some(reading) }
+                let moves = moves_of(case, text);
+                Answer { number: 0, place: 0, counts, arguments, moves, reading: Some(reading) }
             }
-            Some(number) => Answer { number, place: 0, counts, arguments: 0, reading: None },
+            Some(number) => Answer::refused(number, 0, counts),
         }
+    }
+
+    /// A refusal, which says nothing of arguments and moves.
+    fn refused(number: u8, place: usize, counts: [usize; 4]) -> Self {
+        Answer { number, place, counts, arguments: 0, moves: 0, reading: None }
     }
 }
 

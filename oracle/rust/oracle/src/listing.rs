@@ -24,7 +24,8 @@ impl Listing {
         for &count in &answer.counts {
             self.number(count);
         }
-        self.word("arguments").number(answer.arguments).end();
+        self.word("arguments").number(answer.arguments);
+        self.word("moves").number(answer.moves).end();
         if let Some(reading) = &answer.reading {
             self.reading(reading);
         }

@@ -51,6 +51,19 @@ impl<'t> Reading<'t> {
     }
 }
 
+/// How many characters the Rust passes in the text of such a case.
+pub fn moves_of(case: &Case<'_>, text: &str) -> usize {
+    let style = case.style.map(usize::from);
+    let snippet = case.snippet.map(snippet_for_the_rust);
+    let mode = match case.mode {
+        0 => counted_format::ParseMode::Format,
+        1 => counted_format::ParseMode::InlineAsm,
+        2 => counted_format::ParseMode::Diagnostic,
+        _ => unreachable!("a mode above 2 is refused"),
+    };
+    counted_format::moves(text, style, snippet, case.appended_newline, mode)
+}
+
 fn parse_mode(mode: u8) -> ParseMode {
     match mode {
         0 => ParseMode::Format,

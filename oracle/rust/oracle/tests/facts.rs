@@ -241,7 +241,7 @@ fn a_snippet_that_is_too_short_or_not_utf8_ends_at_its_length() {
 #[test]
 fn a_literal_may_have_one_line_more_than_a_text_has_bytes() {
     let draft = source_literal(FORMAT, &"\n".repeat(65_535));
-    assert_eq!(listing_of(&draft), "answer 9 0 1 0 0 65536 arguments 0\n");
+    assert_eq!(listing_of(&draft), "answer 9 0 1 0 0 65536 arguments 0 moves 0\n");
 }
 
 #[test]
@@ -261,6 +261,26 @@ fn a_text_wants_one_argument_more_than_its_largest_number() {
     ];
     for (text, wanted) in texts {
         let answer = lines_with(&listing_of(&Draft::plain(FORMAT, text)), "answer");
-        assert!(answer[0].ends_with(&format!(" arguments {wanted}")), "{text}");
+        assert!(answer[0].contains(&format!(" arguments {wanted} moves ")), "{text}");
+    }
+}
+
+#[test]
+fn the_rust_passes_a_word_twice_that_it_gives_back() {
+    let texts = [
+        (FORMAT, "", 0),
+        (FORMAT, "}", 1),
+        (FORMAT, "øø", 2),
+        (FORMAT, "{:aaa}", 9),
+        (FORMAT, "{:aaaa", 10),
+        (FORMAT, "{:xaaaa}", 13),
+        (FORMAT, "{a.b}", 5),
+        (FORMAT, "{a.b:cc}", 10),
+        (INLINE_ASM, "{:aaa}", 6),
+        (DIAGNOSTIC, "{:aaa}", 6),
+    ];
+    for (mode, text, moves) in texts {
+        let answer = lines_with(&listing_of(&Draft::plain(mode, text)), "answer");
+        assert!(answer[0].ends_with(&format!(" moves {moves}")), "{text}");
     }
 }

@@ -25,7 +25,7 @@ returns c =
       c .before .mode-of .ensures,
       c .before .before .frame-of .ensures,
       c .before .before .before .style-of .ensures,
-    ) (record { answer = refl; frame = refl; mode = refl })
+    ) (record { answer = refl; frame = refl; mode = refl; chars = refl })
 
 pub admitted-spec : {M : Type 1} → statement M
 admitted-spec = tie.close (tie.spec style-of-requires frame-of-requires mode-of-requires no-counts-requires returns)

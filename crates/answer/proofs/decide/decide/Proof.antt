@@ -1,30 +1,17 @@
--- `answer::decide::decide` meets its contract: a refusal before the text is read is the answer, and a text without one is decided as its
--- counts say.
+-- `answer::decide::decide` meets its contract: that of a fresh text.
 use borrow.Author.Needs.{needs}
-use denote.Ref.{now}
-use Rattle.answer.specs.DecisionLaws.{opened-small}
-use Rattle.answer.proofs.Decisions.{stays, counts}
+use Rattle.answer.proofs.Decisions.{fresh-decided}
 use Rattle.answer.proofs.decide.decide.Statement.{statement}
 use Rattle.answer.proofs.decide.decide.Tie as tie
 
-opened-requires : tie.Need-opened-requires
-opened-requires c κs = search needs
+fresh-requires : tie.Need-fresh-requires
+fresh-requires c κs = search needs
+
+decide-by-requires : tie.Need-decide-by-requires
+decide-by-requires c κs = search needs
 
 returns : tie.Need-returns
-returns c =
-    let s = c .before .before .before .before .before .before .before .args in
-    stays (now (s .text)) (now (s .snippet)) (s .request) (s .rooms) (c .before .before .before .before .opened .ensures) (c .if1 .taken)
-
-counted-requires : tie.Need-counted-requires
-counted-requires c κs =
-    let s = c .before .before .before .before .before .before .before .args in
-    opened-small (now (s .text)) (now (s .snippet)) (s .request) (c .before .before .before .before .opened .ensures) (c .if1 .left)
-
-returns-2 : tie.Need-returns-2
-returns-2 c =
-    let s = c .before .before .before .before .before .before .before .before .args in
-    counts (now (s .text)) (now (s .snippet)) (s .request) (s .rooms) (c .before .before .before .before .before .opened .ensures) (c .before .if1 .left)
-    (c .counted .ensures)
+returns c = fresh-decided _ _ _ _ (c .before .fresh .ensures) (c .decide-by .ensures)
 
 pub decide-spec : {M : Type 1} → statement M
-decide-spec = tie.close (tie.spec opened-requires returns counted-requires returns-2)
+decide-spec = tie.close (tie.spec fresh-requires decide-by-requires returns)

@@ -1,10 +1,10 @@
 -- `closing::whole::placeholder` meets its contract: it is the definition, call by call, with a closing brace and without one; an
--- argument takes at most two numbers, so the next one is within the limit of what follows.
+-- argument takes at most two numbers, and gives back at most twice the text, so both are within the limits of what follows.
 use borrow.Author.Needs.{needs}
 use native.Mathlib.Omega.{arith}
 use Rattle.utf8.specs.Choice.{pick}
 use Rattle.closing.specs.Wholes.{placeholderRead}
-use Rattle.placeholder.specs.BoundLaws.{argument-next}
+use Rattle.placeholder.specs.BoundLaws.{argument-next, argument-given}
 use Rattle.closing.proofs.whole.placeholder.Statement.{statement}
 use Rattle.closing.proofs.whole.placeholder.Tie as tie
 
@@ -43,7 +43,8 @@ missing-requires c κs =
     let start = at-argument .before .before in
     let args = start .args in
     let few = argument-next (args .text .now) (args .frame) (args .mode) (args .at) (args .next) in
-    rw (at-argument .argument .ensures) (start .pre .0, omega (arith, start .pre .1))
+    let back = argument-given (args .text .now) (args .frame) (args .mode) (args .at) (args .next) in
+    rw (at-argument .argument .ensures) (start .pre .0, omega (arith, start .pre .1), omega (arith, start .pre .0 .text, back))
 
 returns-2 : tie.Need-returns-2
 unfolding pick placeholderRead

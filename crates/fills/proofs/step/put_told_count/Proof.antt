@@ -1,7 +1,7 @@
 -- `fills::step::put_told_count` meets its contract: its tag and number, then its span.
 use borrow.Author.Needs.{needs}
 use denote.Ref.{now}
-use Rattle.fills.proofs.Telling.{count-none, count-some}
+use Rattle.fills.proofs.Telling.{put-none, put-some}
 use Rattle.fills.proofs.step.put_told_count.Statement.{statement}
 use Rattle.fills.proofs.step.put_told_count.Tie as tie
 
@@ -21,7 +21,7 @@ returns : tie.Need-returns
 returns c =
     let s = c .before .before .before .before .before .before .before .before .before .before .before .before in
     let a = s .args in
-    count-none (now (a .text)) (a .frame) (a .from) (a .next) (a .part) (c .before .before .before .before .before .before .before .before .if1 .taken) (now (a .out)) (a .k) (s .pre .2) (c .before .before .before .before .before .before .put4 .ensures) (c .before .before .put42 .ensures)
+    put-none (now (a .text)) (a .frame) (a .from) (a .next) (a .part) (c .before .before .before .before .before .before .before .before .if1 .taken) (now (a .out)) (a .k) (s .pre .1) (c .before .before .before .before .before .before .put4 .ensures) (c .before .before .put42 .ensures)
 
 span-between-requires : tie.Need-span-between-requires
 span-between-requires c κs = search needs
@@ -54,7 +54,7 @@ returns-2 : tie.Need-returns-2
 returns-2 c =
     let s = c .before .before .before .before .before .before .before .before .before .before .before .before .before .before .before .before .before in
     let a = s .args in
-    count-some (now (a .text)) (a .frame) (a .from) (a .next) (a .part) (c .before .before .before .before .before .before .before .before .before .before .before .before .before .if1 .left) (s .pre .1) (now (a .out)) (a .k) (s .pre .2)
+    put-some (now (a .text)) (a .frame) (a .from) (a .next) (a .part) (c .before .before .before .before .before .before .before .before .before .before .before .before .before .if1 .left) (now (a .out)) (a .k) (s .pre .1)
     (rw (c .before .before .before .before .before .before .before .before .before .count-value .ensures) at (c .before .before .before .before .before .before .before .before .put43 .ensures))
     (rw (c .before .before .before .before .low .ensures, c .before .before .before .low2 .ensures, c .before .before .before .before .before .before .before .before .before .before .before .before .span-between .ensures) at (c .before .before .put44 .ensures))
 

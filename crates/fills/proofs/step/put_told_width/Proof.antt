@@ -1,7 +1,7 @@
 -- `fills::step::put_told_width` meets its contract: a name, or any other count.
 use borrow.Author.Needs.{needs}
 use denote.Ref.{now}
-use Rattle.fills.proofs.Telling.{width-name, width-count}
+use Rattle.fills.proofs.Telling.{put-name, put-count}
 use Rattle.fills.proofs.step.put_told_width.Statement.{statement}
 use Rattle.fills.proofs.step.put_told_width.Tie as tie
 
@@ -13,8 +13,9 @@ same-length c = search needs
 
 returns : tie.Need-returns
 returns c =
-    let a = c .before .before .before .before .before .before .before .before .args in
-    rw (width-name (now (a .text)) (a .frame) (a .from) (a .word) (a .next) (a .part) (c .before .before .before .before .if1 .taken)) at (c .before .before .put-told-name .ensures)
+    let s = c .before .before .before .before .before .before .before .before in
+    let a = s .args in
+    put-name (now (a .text)) (a .frame) (a .from) (a .word) (a .next) (a .part) (c .before .before .before .before .if1 .taken) (now (a .out)) (a .k) (s .pre .1) (c .before .before .put-told-name .ensures)
 
 put-told-count-requires : tie.Need-put-told-count-requires
 put-told-count-requires c κs = search needs
@@ -25,7 +26,7 @@ same-length-2 c = search needs
 returns-2 : tie.Need-returns-2
 returns-2 c =
     let a = c .before .before .before .before .before .before .before .before .args in
-    rw (width-count (now (a .text)) (a .frame) (a .from) (a .word) (a .next) (a .part) (c .before .before .before .before .if1 .left)) at (c .before .before .put-told-count .ensures)
+    put-count (now (a .text)) (a .frame) (a .from) (a .word) (a .next) (a .part) (c .before .before .before .before .if1 .left) (c .before .before .put-told-count .ensures)
 
 pub put-told-width-spec : {M : Type 1} → statement M
 put-told-width-spec =

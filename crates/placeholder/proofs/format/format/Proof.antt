@@ -1,6 +1,10 @@
 -- `placeholder::format::format` meets its contract: it is the definition, part by part, each from where the one before it stood.
 use borrow.Author.Needs.{needs}
+use Prim.Native.Nat.{_≤_}
+use native.Mathlib.Omega.{arith}
+use lib.ListN.{length}
 use Rattle.placeholder.specs.Format.{formatRead}
+use Rattle.placeholder.specs.BoundLaws.{width-given, precision-given}
 use Rattle.placeholder.proofs.format.format.Statement.{statement}
 use Rattle.placeholder.proofs.format.format.Tie as tie
 
@@ -29,10 +33,26 @@ read-type-requires c κs =
     let start = at-sign .before .before .before .before .before .before in
     start .pre .0
 
+-- each count gives back no more than the text has bytes
+add-t33 : tie.Need-add-t33
+add-t33 c =
+    let at-precision = c .before .before .before .before .before .before in
+    let at-width = at-precision .before .before in
+    let at-consume = at-width .before .before in
+    let at-align = at-consume .before .before .before .before in
+    let start = at-align .before .before .before .before in
+    let args = start .args in
+    let wide : at-width .read-width .result .given ≤ length (args .text .now) =
+    rw (at-width .read-width .ensures) (width-given (args .text .now) (args .frame) (at-consume .consume .result .at)) in
+    let precise : at-precision .read-precision .result .given ≤ length (args .text .now) =
+    rw (at-precision .read-precision .ensures) (precision-given (args .text .now) (args .frame) (at-width .read-width .result .at) (args .next)) in
+    omega (arith, start .pre .0 .text, wide, precise)
+
 returns : tie.Need-returns
 unfolding formatRead
 returns c =
-    let at-precision = c .before .before .before .before in
+    let at-type = c .before .before .before .before in
+    let at-precision = at-type .before .before in
     let at-consume = at-precision .before .before .before .before in
     let at-align = at-consume .before .before .before .before in
     rw (
@@ -42,7 +62,7 @@ returns c =
       ← at-consume .consume .ensures,
       ← at-precision .before .before .read-width .ensures,
       ← at-precision .read-precision .ensures,
-      ← c .before .before .read-type .ensures,
+      ← at-type .read-type .ensures,
     )
 
 pub format-spec : {M : Type 1} → statement M
@@ -56,4 +76,5 @@ format-spec =
     read-width-requires
     read-precision-requires
     read-type-requires
+    add-t33
     returns)

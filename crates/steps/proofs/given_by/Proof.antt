@@ -1,0 +1,41 @@
+-- `steps::given_by` meets its contract: each case of the step answers as the definition's.
+use borrow.Author.Needs.{needs}
+use Rattle.steps.proofs.given_by.Statement.{statement}
+use Rattle.steps.proofs.given_by.Tie as tie
+
+enum-told : tie.Need-enum-told
+enum-told c = search needs
+
+enum-told-2 : tie.Need-enum-told-2
+enum-told-2 c = search needs
+
+enum-told-3 : tie.Need-enum-told-3
+enum-told-3 c = search needs
+
+enum-known-step : tie.Need-enum-known-step
+enum-known-step c = search needs
+
+returns : tie.Need-returns
+returns c = search needs
+
+returns-2 : tie.Need-returns-2
+returns-2 c = search needs
+
+returns-3 : tie.Need-returns-3
+returns-3 c = search needs
+
+returns-4 : tie.Need-returns-4
+returns-4 c = rw (c .before .step .given .1)
+
+pub given-by-spec : {M : Type 1} → statement M
+given-by-spec =
+    tie.close
+    (tie.spec
+    enum-told
+    enum-told-2
+    enum-told-3
+    enum-known-step
+    returns
+    returns-2
+    returns-3
+    returns-4)

@@ -1,0 +1,1 @@
+// How many moves a reading takes at most: the bound, in specs/. No code.
