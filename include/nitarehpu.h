@@ -4,9 +4,11 @@
  * lends. No allocation, no global state: calls may run side by side on lists of their own.
  *
  * What the caller sees to, and nothing checks:
- *   - each pointer leads to as many readable (the lists: also writable) elements as the length after it says; with length 0 it may be null;
- *   - no list, nor an output, overlaps another list, the text or the snippet; the text and the snippet may be the same bytes;
- *   - pieces and errors are aligned for uint32_t; places, lines and answer for size_t.
+ *   - each pointer leads to as many readable (the lists, an output, and at nitarehpu_part the state and the buffer: also writable) elements as the length
+ *     after it says; with length 0 it may be null;
+ *   - nothing that a call writes overlaps anything else that it is handed: no list, output, state or buffer another one, the text, the snippet or a part;
+ *     what is only read may be the same bytes;
+ *   - pieces and errors are aligned for uint32_t; places, lines, answer and state for size_t.
  * Every other argument gets a defined answer. The library is for x86-64 Linux.
  */
 #ifndef NITAREHPU_H
@@ -27,7 +29,7 @@ enum {
     NITAREHPU_DONE = 0,
     NITAREHPU_MODE = 1,        /* the mode is above 2 */
     NITAREHPU_STYLE = 2,       /* above 255 hashes, or a snippet without a style */
-    NITAREHPU_LONG = 3,        /* the text is over 65,535 bytes, or the snippet over 66,048 */
+    NITAREHPU_LONG = 3,        /* the text is over 65,535 bytes, or the snippet over 66,048; at nitarehpu_finish also: a part was left out */
     NITAREHPU_UTF8 = 4,        /* the text is not UTF-8: the place is where its longest valid prefix ends */
     NITAREHPU_NEWLINE = 5,     /* a newline is marked as appended, and the text does not end in one */
     NITAREHPU_PIECES = 6,      /* the list of pieces is too short; the counts say what is needed */
@@ -36,8 +38,9 @@ enum {
     NITAREHPU_LINES = 9,       /* the list of line spans is */
     NITAREHPU_FAULTY = 10,     /* nitarehpu_plain alone, after 1, 3 and 4: the text has errors */
     NITAREHPU_OUTPUT = 11,     /* nitarehpu_plain alone, last: the output is too short; the answer says how many bytes are needed */
+    NITAREHPU_UNFIT = 16,      /* nitarehpu_part and nitarehpu_finish alone, before 1: the state's count is beyond the buffer, or the buffer is under 65,535 bytes */
     NITAREHPU_NOT_FORMAT = 17, /* nitarehpu_member alone, after 1: the mode is 1 or 2 */
-    NITAREHPU_NO_ANSWER = 255  /* the answer's list has no room for its eight numbers (nitarehpu_member and nitarehpu_plain: four): nothing was read, and nothing is written */
+    NITAREHPU_NO_ANSWER = 255  /* the answer's list has no room for its eight numbers (nitarehpu_member and nitarehpu_plain: four), or the state's none for its three: nothing was read, and nothing is written */
 };
 
 /* The answer's eight numbers: which of the above, the place (of 4, else 0), how many records each list needs (for 0 and 6 to 9, else 0), how many
@@ -188,6 +191,25 @@ enum { NITAREHPU_PLAIN_NUMBERS = 4 };
  * plain forms are the same bytes. Two readings, and one more that only measures where the output is shorter than the text. */
 uint8_t nitarehpu_plain(const uint8_t *text, size_t text_length, uint8_t mode, uint8_t *output, size_t output_length, size_t *answer,
                         size_t answer_length);
+
+/* A text that arrives in parts, cut anywhere, perhaps inside a letter. The caller lends a buffer of at least 65,535 bytes and a state of three numbers, which
+ * are 0 before the first part: how many bytes of the buffer are taken, up to which of them the text is UTF-8, and whether a part was left out since the text
+ * would have passed the limit. Each call gets the state and the buffer as the call before left them; for any other nothing undefined happens, and
+ * docs/RULES.md, section 16, says what is answered. */
+enum { NITAREHPU_STATE_NUMBERS = 3, NITAREHPU_BUFFER_BYTES = 65535 };
+
+/* Takes a part: writes it into the buffer behind those before it, and carries the check for UTF-8 on. A part with which the text would pass 65,535 bytes writes
+ * nothing; this is remembered in the state, and all parts after it are left out, too. Returns 0; 16, which changes nothing; or 255, where the state's list has no
+ * room for three numbers, which changes nothing either. */
+uint8_t nitarehpu_part(size_t *state, size_t state_length, uint8_t *buffer, size_t buffer_length, const uint8_t *bytes, size_t bytes_length);
+
+/* Reads the text that was taken: what nitarehpu_read answers for all parts joined, and the same lists; 3 where a part was left out. The arguments are those of
+ * nitarehpu_read with the state and the buffer in the text's place, which are not changed. Refusals: 255, where the answer's list or the state's is too short;
+ * 16; then those of nitarehpu_read. What was checked as the parts came is not checked again. */
+uint8_t nitarehpu_finish(const size_t *state, size_t state_length, const uint8_t *buffer, size_t buffer_length, const uint8_t *snippet, size_t snippet_length,
+                         uint8_t mode, uint8_t style, size_t hashes, uint8_t given, uint8_t newline, uint32_t *pieces, size_t pieces_length,
+                         uint32_t *errors, size_t errors_length, size_t *places, size_t places_length, size_t *lines, size_t lines_length,
+                         size_t *answer, size_t answer_length);
 
 #ifdef __cplusplus
 }

@@ -1,5 +1,5 @@
 //! A stream of cases on standard input to their full listing on standard output, through the library's C boundary: the same stream and listing as the program
-//! `cases`, for the comparison with the Rust.
+//! `cases`, for the comparison with the Rust. With `--cut 0,1,2,3,5` each text arrives in parts of so many bytes, in turn, and is read by the finish.
 
 use nitarehpu::raw::{self, ERROR, Lists, PIECE, Request};
 use std::io::{self, BufWriter, Read, Write};
@@ -103,7 +103,24 @@ impl Store {
     }
 }
 
-fn case(out: &mut impl Write, k: usize, head: &[u8], snippet: &[u8], text: &[u8]) -> io::Result<()> {
+/// Reads a text that arrives in parts of such lengths, in turn.
+fn read_in_parts(text: &[u8], lengths: &[usize], request: Request<'_>, lists: &mut Lists<'_>) -> raw::Answer {
+    let mut state = [0; 3];
+    // What the buffer held before is no part of the text.
+    let mut buffer = vec![b'{'; raw::LONGEST];
+    let mut rest = text;
+    for &length in lengths.iter().cycle() {
+        let (part, after) = rest.split_at(length.min(rest.len()));
+        assert_eq!(raw::part(&mut state, &mut buffer, part), 0, "a state fits the buffer that it came with");
+        rest = after;
+        if rest.is_empty() {
+            break;
+        }
+    }
+    raw::finish(&state, &buffer, request, lists)
+}
+
+fn case(out: &mut impl Write, k: usize, head: &[u8], snippet: &[u8], text: &[u8], cut: Option<&[usize]>) -> io::Result<()> {
     let request = Request {
         mode: head[0],
         style: (head[1] == 1).then(|| two(&head[2..])),
@@ -112,7 +129,10 @@ fn case(out: &mut impl Write, k: usize, head: &[u8], snippet: &[u8], text: &[u8]
     };
     let mut store = Store::new([6, 8, 10, 12].map(|at| two(&head[at..])));
     let mut lists = Lists { pieces: &mut store.pieces, errors: &mut store.errors, places: &mut store.places, lines: &mut store.lines };
-    let answer = raw::read(text, request, &mut lists);
+    let answer = match cut {
+        None => raw::read(text, request, &mut lists),
+        Some(lengths) => read_in_parts(text, lengths, request, &mut lists),
+    };
     writeln!(out, "case {k}")?;
     writeln!(
         out,
@@ -137,7 +157,22 @@ fn case(out: &mut impl Write, k: usize, head: &[u8], snippet: &[u8], text: &[u8]
     Ok(())
 }
 
+/// The lengths behind `--cut`, if it is there. One of them is more than 0.
+fn cut() -> Option<Vec<usize>> {
+    let words: Vec<String> = std::env::args().skip(1).collect();
+    match &words[..] {
+        [] => None,
+        [word, lengths] if word == "--cut" => {
+            let lengths: Vec<usize> = lengths.split(',').map(|length| length.parse().expect("a length")).collect();
+            assert!(lengths.iter().any(|&length| length > 0), "a text does not arrive in parts of no bytes alone");
+            Some(lengths)
+        }
+        _ => panic!("cases [--cut LENGTH,..]"),
+    }
+}
+
 fn main() -> io::Result<()> {
+    let cut = cut();
     let mut bytes = Vec::new();
     io::stdin().read_to_end(&mut bytes)?;
     let mut stream = &bytes[..];
@@ -153,7 +188,7 @@ fn main() -> io::Result<()> {
             writeln!(out, "stream")?;
             break;
         };
-        case(&mut out, k, head, snippet, text)?;
+        case(&mut out, k, head, snippet, text, cut.as_deref())?;
         k += 1;
     }
     out.flush()

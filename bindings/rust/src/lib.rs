@@ -11,10 +11,13 @@
 pub mod raw;
 mod records;
 mod room;
+mod upload;
 
 pub use records::{
     Alignment, Argument, Count, DebugHex, FormatSpec, Numeral, ParseError, Piece, Position, Sign,
 };
+
+pub use upload::Upload;
 
 use std::ops::Range;
 
@@ -47,6 +50,8 @@ pub enum Refused {
     Style,
     /// The text is over 65,535 bytes, or the snippet over 66,048.
     Long,
+    /// Of an `Upload` alone: its bytes are not UTF-8 from this place on.
+    Utf8(usize),
     /// A newline is marked as appended, and the text does not end in one.
     Newline,
 }
@@ -54,6 +59,7 @@ pub enum Refused {
 impl std::fmt::Display for Refused {
     fn fmt(&self, f: &mut std::fmt::Formatter<'_>) -> std::fmt::Result {
         f.write_str(match self {
+            Refused::Utf8(place) => return write!(f, "the text is not UTF-8 from byte {place} on"),
             Refused::Style => "the style has more than 255 hashes, or a snippet comes without a style",
             Refused::Long => "the text is longer than 65,535 bytes, or the snippet than 66,048",
             Refused::Newline => "a newline is marked as appended, and the text does not end in one",

@@ -43,6 +43,39 @@ unsafe extern "C" {
         answer_length: usize,
     ) -> u8;
 
+    fn nitarehpu_part(
+        state: *mut usize,
+        state_length: usize,
+        buffer: *mut u8,
+        buffer_length: usize,
+        bytes: *const u8,
+        bytes_length: usize,
+    ) -> u8;
+
+    fn nitarehpu_finish(
+        state: *const usize,
+        state_length: usize,
+        buffer: *const u8,
+        buffer_length: usize,
+        snippet: *const u8,
+        snippet_length: usize,
+        mode: u8,
+        style: u8,
+        hashes: usize,
+        given: u8,
+        newline: u8,
+        pieces: *mut u32,
+        pieces_length: usize,
+        errors: *mut u32,
+        errors_length: usize,
+        places: *mut usize,
+        places_length: usize,
+        lines: *mut usize,
+        lines_length: usize,
+        answer: *mut usize,
+        answer_length: usize,
+    ) -> u8;
+
     fn nitarehpu_member(
         text: *const u8,
         text_length: usize,
@@ -155,6 +188,48 @@ pub fn count(text: &[u8], request: Request<'_>) -> Answer {
             request.style.unwrap_or(0),
             u8::from(request.snippet.is_some()),
             u8::from(request.newline),
+            answer.as_mut_ptr(),
+            answer.len(),
+        );
+    }
+    answered(answer)
+}
+
+/// What is kept between the parts of a text: how many bytes of the buffer are taken, up to which of them the text is UTF-8, and whether a part was left out.
+pub type State = [usize; 3];
+
+/// Takes a part of a text into a lent buffer: 0, or 16 where the state does not fit the buffer.
+pub fn part(state: &mut State, buffer: &mut [u8], bytes: &[u8]) -> u8 {
+    // SAFETY: as above.
+    unsafe { nitarehpu_part(state.as_mut_ptr(), state.len(), buffer.as_mut_ptr(), buffer.len(), bytes.as_ptr(), bytes.len()) }
+}
+
+/// Reads the text that was taken into lent lists.
+pub fn finish(state: &State, buffer: &[u8], request: Request<'_>, lists: &mut Lists<'_>) -> Answer {
+    let snippet = request.snippet.unwrap_or_default();
+    let mut answer = [0; ANSWER];
+    // SAFETY: as above.
+    unsafe {
+        nitarehpu_finish(
+            state.as_ptr(),
+            state.len(),
+            buffer.as_ptr(),
+            buffer.len(),
+            snippet.as_ptr(),
+            snippet.len(),
+            request.mode,
+            u8::from(request.style.is_some()),
+            request.style.unwrap_or(0),
+            u8::from(request.snippet.is_some()),
+            u8::from(request.newline),
+            lists.pieces.as_mut_ptr(),
+            lists.pieces.len(),
+            lists.errors.as_mut_ptr(),
+            lists.errors.len(),
+            lists.places.as_mut_ptr(),
+            lists.places.len(),
+            lists.lines.as_mut_ptr(),
+            lists.lines.len(),
             answer.as_mut_ptr(),
             answer.len(),
         );

@@ -1,0 +1,2 @@
+-- A law that the walk cites.
+pub mod Finishing

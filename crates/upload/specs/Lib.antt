@@ -1,0 +1,3 @@
+-- What the finish asks (Asks), and that its answer is the finish's (AskLaws).
+pub mod Asks
+pub mod AskLaws
