@@ -1,10 +1,12 @@
 //! Measures the reader beside the Rust that it replaces and its peers. All read the same texts in one run, by turns; of many rounds the quickest counts.
 
+mod goals;
 mod ours;
 mod peers;
 mod stack;
 mod texts;
 
+use goals::Goals;
 use ours::Reader;
 use std::hint::black_box;
 use std::time::Instant;
@@ -85,7 +87,7 @@ fn alone(text: &Text, reader: &mut Reader) -> f64 {
 }
 
 /// Large texts, in nanoseconds a byte, and how much longer the reader by itself takes for twice the text.
-fn large_texts(reader: &mut Reader) {
+fn large_texts(reader: &mut Reader, goals: &mut Goals) {
     println!("| text, ns a byte | this | the Rust | {{fmt}} | sum of bytes | the Rust : this | twice the text |");
     println!("|---|---|---|---|---|---|---|");
     for (text, half) in texts::large(SIZE).iter().zip(texts::large(SIZE / 2)) {
@@ -94,6 +96,7 @@ fn large_texts(reader: &mut Reader) {
         let (ours, rust, cpp, sum) = measured(text, reader, rounds, 1);
         let doubled = alone(text, reader) / alone(&half, reader);
         row(text.name, text.bytes.len() as f64, ours, rust, cpp, sum, Some(doubled));
+        goals.large(text.name, rust / ours, cpp.map(|cpp| ours / cpp), doubled);
     }
     let text = texts::broken(SIZE);
     assert_eq!(reader.read(&text.bytes).0, 4);
@@ -113,29 +116,36 @@ fn large_texts(reader: &mut Reader) {
         ],
     );
     row(text.name, text.bytes.len() as f64, ours, rust, None, sum, None);
+    goals.at_least(text.name, rust / ours, 0.7);
     println!();
 }
 
 /// Small texts with errors at the front: where the Rust's time grows with the square, ours must not be more at any size.
-fn front_errors(reader: &mut Reader) {
+fn front_errors(reader: &mut Reader, goals: &mut Goals) {
     println!("| errors at the front, ns a byte | this | the Rust | {{fmt}} | sum of bytes | the Rust : this | |");
     println!("|---|---|---|---|---|---|---|");
     for size in [2, 16, 128, 1024, 8192] {
         let text = Text { name: "errors at the front", bytes: "{,".repeat(size / 2).into_bytes() };
         let (ours, rust, cpp, sum) = measured(&text, reader, 20, (4096 / size).max(1));
         row(&format!("{size} bytes"), size as f64, ours, rust, cpp, sum, None);
+        goals.at_least(&format!("errors at the front, {size} bytes"), rust / ours, 3.0);
     }
     println!();
 }
 
 /// Short templates, in nanoseconds a call.
-fn short_texts(reader: &mut Reader) {
+fn short_texts(reader: &mut Reader, goals: &mut Goals) {
     println!("| text, ns a call | this | the Rust | {{fmt}} | sum of bytes | the Rust : this | |");
     println!("|---|---|---|---|---|---|---|");
     for text in texts::short() {
         let (ours, rust, cpp, sum) = measured(&text, reader, ROUNDS, 1000);
         row(text.name, 1.0, ours, rust, cpp, sum, None);
+        goals.short(text.name, rust / ours, cpp.map(|cpp| ours / cpp));
     }
+    let bare = Text { name: "`{}` alone", bytes: b"{}".to_vec() };
+    let (ours, rust, cpp, sum) = measured(&bare, reader, ROUNDS, 1000);
+    row(bare.name, 1.0, ours, rust, cpp, sum, None);
+    goals.at_most("`{}` alone, ns", ours, 20.0);
     println!();
 }
 
@@ -182,10 +192,12 @@ fn main() -> std::io::Result<()> {
         write_texts(&folder)?;
     }
     let mut reader = Reader::new(1 << 16);
-    large_texts(&mut reader);
-    short_texts(&mut reader);
-    front_errors(&mut reader);
+    let mut goals = Goals::default();
+    large_texts(&mut reader, &mut goals);
+    short_texts(&mut reader, &mut goals);
+    front_errors(&mut reader, &mut goals);
     member_template(&mut reader);
     stack_of_a_call(&mut reader);
+    goals.print();
     Ok(())
 }
