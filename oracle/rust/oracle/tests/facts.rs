@@ -276,7 +276,7 @@ fn the_rust_passes_a_word_twice_that_it_gives_back() {
         (FORMAT, "{:xaaaa}", 13),
         (FORMAT, "{a.b}", 5),
         (FORMAT, "{a.b:cc}", 10),
-        (INLINE_ASM, "{:aaa}", 6),
+        (ASM, "{:aaa}", 6),
         (DIAGNOSTIC, "{:aaa}", 6),
     ];
     for (mode, text, moves) in texts {
