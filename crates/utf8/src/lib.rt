@@ -71,16 +71,19 @@ pub fn check_from(text: &[u8], at: usize) -> Checked
         };
     }
     let mut i = at;
-    let mut chars = 0;
+    // How many bytes stand behind the first of their character: only letters that are not ASCII have any, so blocks are passed at their speed.
+    let mut later = 0;
     loop {
         let j = ascii_end(text, i, n);
-        chars += j - i;
         let s = sequence_at(text, j);
         let w = s.width;
         if w == 0 {
-            return Checked { valid: j, chars };
+            return Checked {
+                valid: j,
+                chars: j - at - later,
+            };
         }
-        chars += 1;
+        later += w - 1;
         i = j + w;
     }
 }
