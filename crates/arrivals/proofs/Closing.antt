@@ -1,22 +1,19 @@
 -- The lists of a finish, with room for the answer and the state or without. Rests on Calls, and on what `export` reads.
 use Prim.Native.Nat.{ℕ, _≤_, _<_}
-use mathlib.Core.Path.{_≡_, refl, sym, ap, subst, _∙_}
-use mathlib.Core.Bool.{Bool, true, false}
+use mathlib.Core.Path.{_≡_, refl, ap, subst, _∙_}
+use mathlib.Core.Bool.{true}
 use mathlib.Core.List.{List}
-use native.Mathlib.Omega.{arith}
-use borrow.Author.Tests.{lt-ltb, le-ltb, eqb-true}
-use lib.Dec.{ltb, eqb}
+use borrow.Author.Tests.{lt-ltb, le-ltb}
 use lib.ListN.{length}
-use Rattle.utf8.specs.Choice.{pick, either}
+use Rattle.utf8.specs.Choice.{pick}
 use Rattle.utf8.specs.ChoiceLaws.{either-true}
-use Rattle.reading.specs.Answers.{frameFor, modeFor}
 use Rattle.reading.specs.Exits.{atExit}
 use Rattle.reading.specs.Lists.{places, lines}
-use Rattle.reading.specs.Written.{over, pairs}
+use Rattle.reading.specs.Written.{over}
 use Rattle.reading.specs.declared.Answer.{Answer}
 use Rattle.reading.specs.declared.Request.{Request}
 use Rattle.answer.specs.declared.Asked.{Asked}
-use Rattle.words.specs.Calls.{roomsIn, piecesIn, errorsIn, answerWords, isShort}
+use Rattle.words.specs.Calls.{roomsIn, answerWords, isShort}
 use Rattle.export.specs.Parts.{Read}
 use Rattle.uploads.specs.Finishes.{taken, finishAnswer}
 use Rattle.uploads.specs.declared.Upload.{Upload}

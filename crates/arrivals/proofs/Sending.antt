@@ -5,10 +5,9 @@ use mathlib.Core.Bool.{Bool, true, false}
 use mathlib.Core.List.{List, [], _∷_}
 use native.Mathlib.Omega.{arith}
 use borrow.Author.Tests.{lt-ltb, le-ltb}
-use lib.Dec.{ltb}
 use lib.ListN.{length, set}
 use lib.Seq.{sets-eq}
-use Rattle.utf8.specs.Choice.{pick, either}
+use Rattle.utf8.specs.Choice.{pick}
 use Rattle.reading.specs.Written.{over}
 use Rattle.uploads.specs.Parts.{isUnfit, partNumber, partState, partBuffer, Part}
 use Rattle.uploads.specs.declared.Upload.{Upload}

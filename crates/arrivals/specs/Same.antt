@@ -1,11 +1,11 @@
 -- The numbers give back the state, and a finish of parts that are kept is the call on the joined text, with the same lists. Rests on Calls and `uploads`.
 use Prim.Native.Nat.{ℕ, _≤_}
 use mathlib.Core.Path.{_≡_, refl, sym, _∙_, ap}
-use mathlib.Core.Bool.{Bool, true, false, true≢false}
-use mathlib.Core.List.{List, [], _∷_}
+use mathlib.Core.Bool.{Bool, true, false}
+use mathlib.Core.List.{List}
 use native.Mathlib.Omega.{arith}
-use borrow.Author.Tests.{lt-ltb, le-ltb, ltb-true}
-use lib.Dec.{ltb, eqb}
+use borrow.Author.Tests.{le-ltb}
+use lib.Dec.{eqb}
 use lib.ListN.{length}
 use Rattle.utf8.specs.Choice.{pick, either}
 use Rattle.reading.specs.Answers.{frameFor, modeFor, answerOf}

@@ -1,7 +1,7 @@
 -- What lists of numbers have room for, and what they hold at exit. Rests on Calls, Parts, and the laws of answer and reading.
 use Prim.Native.Nat.{ℕ, zero, suc, _+_, _*_, _≤_}
 use mathlib.Core.Path.{_≡_, refl, sym, ap, _∙_}
-use mathlib.Core.Bool.{Bool, true, false}
+use mathlib.Core.Bool.{false}
 use mathlib.Core.List.{List, [], _∷_}
 use native.Mathlib.Omega.{arith}
 use borrow.Author.Tests.{eq-eqb, ne-eqb, le-ltb}
@@ -18,7 +18,7 @@ use Rattle.reading.specs.Moves.{moves}
 use Rattle.reading.specs.Steps.{stepAt, onward, follow, stepsFrom, start, reading}
 use Rattle.reading.specs.declared.Onward.{Onward}
 use Rattle.reading.specs.declared.State.{State}
-use Rattle.laws.specs.MoveLaws.{given, givenIn, givenBy, stopOf, movesTold, moves-told, step-given}
+use Rattle.laws.specs.MoveLaws.{given, givenIn, stopOf, movesTold, moves-told, step-given}
 use Rattle.laws.specs.ListLaws.{no-places, no-lines}
 use Rattle.laws.specs.RoomLaws.{few-pieces, few-errors}
 use Rattle.reading.specs.declared.Counts.{Counts}

@@ -1,23 +1,21 @@
 -- Steps of the lane: what is passed, what is left, and where it stops. Rests on Lane, Stepping, Spoiling and Wrongs, and on writing's Stepping.
 use Prim.Native.Nat.{ℕ, _+_, _*_, _≤_, _<_}
 use mathlib.Core.Path.{_≡_, refl, sym, ap, _∙_}
-use mathlib.Core.Bool.{Bool, true, false, true≢false}
-use mathlib.Core.List.{List, []}
+use mathlib.Core.Bool.{true, false, true≢false}
+use mathlib.Core.List.{List}
 use native.Mathlib.Omega.{arith}
 use lib.ListN.{length, getD}
 use Rattle.frame.specs.Places.{place, rangeOf}
 use Rattle.frame.specs.declared.Frame.{Frame}
 use Rattle.frame.specs.declared.Mode.{Mode}
 use Rattle.frame.specs.declared.TextPlace.{TextPlace}
-use Rattle.frame.specs.declared.TextRange.{TextRange}
 use Rattle.scan.specs.Characters.{textEnd}
 use Rattle.closing.specs.Wholes.{placeholderRead}
 use Rattle.reading.specs.Faults.{stepSlots, wrong}
 use Rattle.reading.specs.Lists.{gather, piecesOf}
 use Rattle.laws.specs.ListLaws.{gather-one}
 use Rattle.laws.specs.MoveLaws.{givenBy}
-use Rattle.reading.specs.Steps.{stateOf, stepAt, onward}
-use Rattle.reading.specs.declared.Onward.{Onward}
+use Rattle.reading.specs.Steps.{stateOf, stepAt}
 use Rattle.reading.specs.declared.Piece.{Piece}
 use Rattle.reading.specs.declared.State.{State}
 use Rattle.reading.specs.declared.Step.{Step}
@@ -26,7 +24,6 @@ use Rattle.quick.specs.declared.PlaceholderTold.{PlaceholderTold}
 use Rattle.words.specs.Laid.{laid}
 use Rattle.words.specs.LaidLaws.{pieceWords-length}
 use Rattle.words.specs.Layout.{literalWords, argumentWords, pieceWords}
-use Rattle.fills.specs.declared.lane.Passed.{Passed}
 use Rattle.fills.specs.Lane.{Put, Here, Tried, Clear, PassedBy, Flawless, toldState}
 use Rattle.fills.proofs.Wrongs.{flawless-none, told-wrong}
 use Rattle.fills.proofs.Stepping.{step-literal, step-open, step-told, told-on}

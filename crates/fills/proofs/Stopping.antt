@@ -1,21 +1,18 @@
 -- The step where the lane stopped, written: what was told there, or the plain step. Rests on Lane and Stepping, and on writing's Stepping.
 use Prim.Native.Nat.{ℕ, _+_, _*_, _≤_}
-use mathlib.Core.Path.{_≡_, refl, sym, ap, _∙_}
-use mathlib.Core.Bool.{Bool, true, false, true≢false}
-use mathlib.Core.List.{List, []}
+use mathlib.Core.Path.{_≡_, refl, sym, _∙_}
+use mathlib.Core.Bool.{Bool, true, false}
+use mathlib.Core.List.{List}
 use native.Mathlib.Omega.{arith}
 use lib.ListN.{length}
 use Rattle.frame.specs.declared.Frame.{Frame}
 use Rattle.frame.specs.declared.Mode.{Mode}
-use Rattle.reading.specs.Lists.{gather, piecesOf}
+use Rattle.reading.specs.Lists.{gather}
 use Rattle.reading.specs.Steps.{stepAt}
 use Rattle.reading.specs.declared.State.{State}
-use Rattle.reading.specs.declared.Step.{Step}
 use Rattle.quick.specs.Tellings.{toldRead}
 use Rattle.quick.specs.declared.PlaceholderTold.{PlaceholderTold}
-use Rattle.words.specs.Laid.{laid}
-use Rattle.words.specs.Layout.{pieceWords}
-use Rattle.writing.specs.StepsWritten.{notedBy, noticed, Room, Notes, oneMore, StepRoom, Stepped, SteppedOn}
+use Rattle.writing.specs.StepsWritten.{notedBy, noticed, Room, Notes, oneMore, StepRoom, SteppedOn}
 use Rattle.writing.specs.declared.Extent.{Extent}
 use Rattle.writing.specs.declared.StepWritten.{StepWritten}
 use Rattle.writing.proofs.Overlays.{laid-none}

@@ -1,6 +1,6 @@
 -- The lane's steps, one after another: their pieces are laid as one. Rests on Lane, Spoiling and writing's Overlays, and on `laws`' StepLaws.
 use Prim.Native.Nat.{ℕ, _+_, _-_, _*_, _≤_, _<_}
-use mathlib.Core.Path.{_≡_, refl, sym, ap, subst, _∙_}
+use mathlib.Core.Path.{_≡_, sym, ap, subst, _∙_}
 use mathlib.Core.Bool.{false}
 use mathlib.Core.List.{List, [], _++_}
 use native.Mathlib.Omega.{arith}

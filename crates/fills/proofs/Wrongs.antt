@@ -1,7 +1,7 @@
 -- What the quick lane tells to be wrong: the word `_` in three places, and a closing brace that is missing. It is what the step found wrong.
 -- Rests on Lane, writing's Noting, quick's Tellings and `laws`' FaultLaws.
 use Prim.Native.Nat.{ℕ, _+_, _*_, _≤_}
-use mathlib.Core.Path.{_≡_, refl, sym, ap, subst, _∙_}
+use mathlib.Core.Path.{_≡_, refl, sym, ap, _∙_}
 use mathlib.Core.Bool.{Bool, true, false}
 use mathlib.Core.List.{List, [], _∷_, _++_, append-nil}
 use lib.Dec.{eqb}
@@ -27,7 +27,7 @@ use Rattle.quick.specs.declared.SignHint.{SignHint}
 use Rattle.words.specs.Laid.{laid}
 use Rattle.words.specs.Layout.{errorWords}
 use Rattle.reading.specs.Records.{bareError}
-use Rattle.writing.specs.StepsWritten.{notedBy, notes, noticed, Room, Notes, BackRoom, BackNotes}
+use Rattle.writing.specs.StepsWritten.{notedBy, noticed, Room, Notes, BackRoom, BackNotes}
 use Rattle.writing.specs.declared.Extent.{Extent}
 use Rattle.writing.proofs.Noting.{noticed-none, noticed-append, noticed-same, notes-none, room-before, put-clean, notes-then, room-then, back-clean, back-one, back-room, back-before, back-after, backs-then}
 use Rattle.fills.specs.Lane.{whyTold, missingTold, toldSlots, Flawless}

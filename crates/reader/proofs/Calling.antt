@@ -23,7 +23,6 @@ use Rattle.reading.specs.Written.{over, pairs}
 use Rattle.reading.specs.Exits.{atExit}
 use Rattle.answer.specs.declared.Asked.{Asked}
 use Rattle.reading.specs.declared.Rooms.{Rooms}
-use Rattle.reading.specs.declared.Answer.{Answer}
 use Rattle.answer.specs.declared.Decision.{Decision}
 use Rattle.reading.specs.Calls.{roomsOf}
 use Rattle.reader.specs.Reads.{ReadBy}

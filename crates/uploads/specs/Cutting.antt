@@ -1,14 +1,14 @@
 -- THE PAGE OF TEXTS IN PARTS: however a text is cut, its parts and the finish come to what one call on the joined text comes to; and what the calls do
 -- for any state and buffer leaves no choice. The definitions are Parts and Finishes; the work is in PartLaws and FinishLaws.
 use Prim.Native.Nat.{ℕ, _≤_}
-use mathlib.Core.Path.{_≡_, refl, sym, _∙_, ap, subst}
+use mathlib.Core.Path.{_≡_, sym, _∙_, ap, subst}
 use mathlib.Core.Bool.{true}
 use mathlib.Core.List.{List, [], _∷_, _++_, append-assoc, append-nil}
 use lib.ListN.{length}
 use Rattle.utf8.specs.Choice.{pick}
 use Rattle.reading.specs.Answers.{frameFor, modeFor, answerOf}
 use Rattle.reading.specs.Calls.{roomsOf, Read}
-use Rattle.reading.specs.Exits.{atExit, Filled}
+use Rattle.reading.specs.Exits.{atExit}
 use Rattle.reading.specs.Lists.{pieces, errors, places, lines}
 use Rattle.reading.specs.Written.{pairs}
 use Rattle.reading.specs.declared.Answer.{Answer}

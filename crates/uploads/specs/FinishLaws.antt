@@ -3,16 +3,15 @@ use Prim.Native.Nat.{ℕ, _<_}
 use mathlib.Core.Path.{_≡_, refl, sym, _∙_, ap}
 use mathlib.Core.Bool.{Bool, true, false, true≢false}
 use mathlib.Core.List.{List}
-use native.Mathlib.Omega.{arith}
 use borrow.Author.Tests.{lt-ltb, eqb-true}
 use lib.Dec.{ltb, eqb}
 use lib.ListN.{length}
-use Rattle.utf8.specs.Choice.{pick, either}
+use Rattle.utf8.specs.Choice.{pick}
 use Rattle.utf8.specs.Utf8.{validPrefix}
 use Rattle.reading.specs.Answers.{isStyled, isLong, isBroken, lacksNewline, answerOf}
 use Rattle.reading.specs.Exits.{atExit}
 use Rattle.reading.specs.Written.{over}
-use Rattle.laws.specs.Deciding.{refusedAs, earlyNumber, lateAnswer, unlessRefused, countedAnswer, answer-decided, answer-passed}
+use Rattle.laws.specs.Deciding.{refusedAs, earlyNumber, lateAnswer, countedAnswer, answer-decided, answer-passed}
 use Rattle.reading.specs.declared.Answer.{Answer}
 use Rattle.reading.specs.declared.Request.{Request}
 use Rattle.reading.specs.declared.Rooms.{Rooms}

@@ -2,10 +2,10 @@
 use Prim.Native.Nat.{ℕ, zero, suc, _+_, _≤_, _<_}
 use mathlib.Core.Path.{_≡_, refl, sym, _∙_, ap}
 use mathlib.Core.Bool.{Bool, true, false, true≢false}
-use mathlib.Core.List.{List, [], _∷_, _++_, append-nil}
+use mathlib.Core.List.{List, [], _∷_, _++_}
 use native.Mathlib.Nat.{suc-add, zero-add}
 use native.Mathlib.Omega.{arith}
-use borrow.Author.Tests.{lt-ltb, le-ltb, ltb-true, ltb-false}
+use borrow.Author.Tests.{le-ltb, ltb-true, ltb-false}
 use lib.Dec.{ltb}
 use lib.ListN.{length, take, length-append}
 use Rattle.utf8.specs.Choice.{pick, either}
@@ -14,7 +14,7 @@ use Rattle.utf8.specs.Utf8Laws.{validEnd, valid-join}
 use Rattle.pen.specs.Pens.{over}
 use Rattle.pen.specs.PenLaws.{over-length}
 use Rattle.uploads.specs.declared.Upload.{Upload}
-use Rattle.uploads.specs.Parts.{nothing, isUnfit, isTooMuch, marked, grown, partNumber, partState, partBuffer, Held, held}
+use Rattle.uploads.specs.Parts.{nothing, isUnfit, isTooMuch, marked, grown, partState, partBuffer, Held, held}
 
 -- the bytes up to the end of what was laid: those before it, and it
 pub over-joins : (b : List ℕ) (k : ℕ) (p : List ℕ) → k + length p ≤ length b → take (k + length p) (over b k p) ≡ take k b ++ p

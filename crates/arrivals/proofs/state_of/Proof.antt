@@ -1,11 +1,10 @@
 -- `arrivals::state_of` meets its contract: each number is its field. Assumes nothing.
 use borrow.Author.Needs.{needs}
-use mathlib.Core.Path.{_≡_, ap}
+use mathlib.Core.Path.{ap}
 use mathlib.Core.Bool.{Bool}
 use denote.Ref.{now}
 use lib.ListN.{getD}
 use Rattle.arrivals.specs.Calls.{stateOf}
-use Rattle.uploads.specs.declared.Upload.{Upload}
 use Rattle.arrivals.proofs.state_of.Statement.{statement}
 use Rattle.arrivals.proofs.state_of.Tie as tie
 

@@ -1,8 +1,7 @@
 -- `upload::asked_of` meets its contract: each field is what it says. Assumes nothing.
 use borrow.Author.Needs.{needs}
-use mathlib.Core.Path.{_≡_, ap}
+use mathlib.Core.Path.{ap}
 use mathlib.Core.Bool.{Bool, true}
-use Rattle.answer.specs.declared.Asked.{Asked}
 use Rattle.upload.proofs.asked_of.Statement.{statement}
 use Rattle.upload.proofs.asked_of.Tie as tie
 

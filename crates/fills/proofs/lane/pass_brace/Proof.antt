@@ -1,7 +1,6 @@
 -- `fills::lane::pass_brace` meets its contract: what is told is the placeholder there, and it is passed where nothing is wrong in it.
 use borrow.Author.Needs.{needs}
 use borrow.Author.Tests.{not-true, not-false}
-use native.Mathlib.Omega.{arith}
 use mathlib.Core.Path.{_∙_}
 use denote.Ref.{now}
 use Rattle.fills.proofs.Passing.{stopped-none, open-fits, open-untold, open-flawed, open-passed}
