@@ -1,6 +1,4 @@
 -- Laws that the proofs of `fills` share.
-pub mod Spoiling
-pub mod Telling
 pub mod Wrongs
 pub mod Stepping
 pub mod Passing

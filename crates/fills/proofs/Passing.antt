@@ -24,7 +24,8 @@ use Rattle.quick.specs.declared.PlaceholderTold.{PlaceholderTold}
 use Rattle.words.specs.Laid.{laid}
 use Rattle.words.specs.LaidLaws.{pieceWords-length}
 use Rattle.words.specs.Layout.{literalWords, argumentWords, pieceWords}
-use Rattle.fills.specs.Lane.{Put, Here, Tried, Clear, PassedBy, Flawless, toldState}
+use Rattle.told.specs.Told.{Put, Flawless, toldState}
+use Rattle.fills.specs.Lane.{Here, Tried, Clear, PassedBy}
 use Rattle.fills.proofs.Wrongs.{flawless-none, told-wrong}
 use Rattle.fills.proofs.Stepping.{step-literal, step-open, step-told, told-on}
 

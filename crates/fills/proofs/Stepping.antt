@@ -28,8 +28,9 @@ use Rattle.words.specs.Layout.{argumentWords, pieceWords}
 use Rattle.writing.specs.StepsWritten.{notedBy, notes, noticed, Room, Notes, oneMore, StepRoom, Stepped}
 use Rattle.writing.specs.declared.Extent.{Extent}
 use Rattle.writing.proofs.Noting.{noticed-same}
-use Rattle.fills.specs.Lane.{Sound, toldState, toldSlots}
-use Rattle.fills.proofs.Telling.{told-wants}
+use Rattle.told.specs.Told.{toldState}
+use Rattle.fills.specs.Lane.{toldSlots}
+use Rattle.told.proofs.Telling.{told-wants}
 use Rattle.fills.proofs.Wrongs.{told-wrong}
 
 module _ (t : List ℕ) (f : Frame) where
@@ -60,10 +61,6 @@ pub told-on : (t : List ℕ) (f : Frame) (s : State) (x : PlaceholderTold) {a : 
 unfolding toldRead toldState
 told-on t f s x e =
     ap Onward.To (ap (λ (w : ℕ). stateOf (place (x .on)) (nextOf (s .next) x) w) (told-wants t f (s .at .0) (s .next) (s .arguments) x) ∙ sym e)
-
--- what is told, where it is
-pub told-sound : (t : List ℕ) (at : ℕ) (x : PlaceholderTold) → Tells t at x → x .ok ≡ true → Sound t x
-told-sound t at x s y = record { placed = s .placed y; wide = s .wide y; precise = s .precise y; reached = s .reached y }
 
 -- WHAT THE STEP IS
 module _ (t : List ℕ) (f : Frame) (m : Mode) (s : State) where

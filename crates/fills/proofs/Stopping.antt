@@ -17,7 +17,8 @@ use Rattle.writing.specs.declared.Extent.{Extent}
 use Rattle.writing.specs.declared.StepWritten.{StepWritten}
 use Rattle.writing.proofs.Overlays.{laid-none}
 use Rattle.writing.proofs.Stepping.{stepped-end, stepped-on, stepped-over, argument-room}
-use Rattle.fills.specs.Lane.{Here, Tried, toldState, toldSlots}
+use Rattle.told.specs.Told.{toldState}
+use Rattle.fills.specs.Lane.{Here, Tried, toldSlots}
 use Rattle.fills.proofs.Stepping.{step-end, told-room, stepped-told, told-on}
 
 module _ (t : List ℕ) (f : Frame) (m : Mode) (s : State) {x : PlaceholderTold} (h : Here t f m s x) where

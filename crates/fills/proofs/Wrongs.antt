@@ -30,7 +30,8 @@ use Rattle.reading.specs.Records.{bareError}
 use Rattle.writing.specs.StepsWritten.{notedBy, noticed, Room, Notes, BackRoom, BackNotes}
 use Rattle.writing.specs.declared.Extent.{Extent}
 use Rattle.writing.proofs.Noting.{noticed-none, noticed-append, noticed-same, notes-none, room-before, put-clean, notes-then, room-then, back-clean, back-one, back-room, back-before, back-after, backs-then}
-use Rattle.fills.specs.Lane.{whyTold, missingTold, toldSlots, Flawless}
+use Rattle.told.specs.Told.{Flawless}
+use Rattle.fills.specs.Lane.{whyTold, missingTold, toldSlots}
 
 -- THE WORD `_` between two bytes: nothing is written where it does not stand there, else a record of the back
 module _ (t : List ℕ) (f : Frame) (high : ℕ) (es : List ℕ) (b : Bool) (from to n : ℕ) where

@@ -7,20 +7,15 @@ use lib.Dec.{eqb}
 use lib.ListN.{length}
 use Rattle.utf8.specs.Choice.{pick}
 use Rattle.utf8.specs.Utf8.{peekAt}
-use Rattle.frame.specs.Places.{place, rangeOf}
-use Rattle.frame.specs.Spans.{spanBetween}
+use Rattle.frame.specs.Places.{place}
 use Rattle.frame.specs.declared.Frame.{Frame}
 use Rattle.frame.specs.declared.Mode.{Mode}
 use Rattle.frame.specs.declared.TextPlace.{TextPlace}
-use Rattle.scan.specs.declared.Count.{Count}
-use Rattle.placeholder.specs.Arguments.{resolved}
-use Rattle.placeholder.specs.declared.MaybeSpan.{MaybeSpan}
-use Rattle.placeholder.specs.declared.Place.{Place}
 use Rattle.closing.specs.Recovery.{gapAt}
 use Rattle.reading.specs.Faults.{gapFault, hintFault, argumentSlots, stepSlots, wrong}
 use Rattle.reading.specs.Lists.{gather, piecesOf, pieces, found}
-use Rattle.reading.specs.Steps.{stateOf, stepAt, onward}
-use Rattle.reading.specs.Wants.{larger, placeWants, countWants, wants}
+use Rattle.reading.specs.Steps.{stepAt, onward}
+use Rattle.reading.specs.Wants.{wants}
 use Rattle.reading.specs.Written.{over}
 use Rattle.laws.specs.MoveLaws.{givenBy, given, stopOf}
 use Rattle.reading.specs.declared.Fault.{Fault}
@@ -28,54 +23,15 @@ use Rattle.reading.specs.declared.Onward.{Onward}
 use Rattle.reading.specs.declared.Piece.{Piece}
 use Rattle.reading.specs.declared.State.{State}
 use Rattle.reading.specs.declared.Step.{Step}
-use Rattle.quick.specs.Tellings.{codeSeen, foundOf, countOf, afterStar, nextOf, argumentOf, blanksOf, placedHint, toldRead}
-use Rattle.quick.specs.declared.PartTold.{PartTold}
+use Rattle.quick.specs.Tellings.{codeSeen, argumentOf, blanksOf, placedHint, toldRead}
 use Rattle.quick.specs.declared.PlaceholderTold.{PlaceholderTold}
 use Rattle.words.specs.Laid.{laid}
-use Rattle.words.specs.Layout.{headWords, placeTag, placeWords, countWords, argumentWords, pieceWords}
+use Rattle.words.specs.Layout.{argumentWords, pieceWords}
 use Rattle.writing.specs.StepsWritten.{Noted, notedBy, notes}
 use Rattle.writing.specs.declared.Extent.{Extent}
 use Rattle.words.specs.Calls.{piecesIn}
 use Rattle.fills.specs.declared.lane.Passed.{Passed}
 use Rattle.fills.specs.declared.lane.Stopped.{Stopped}
-
--- WHAT IS TOLD: its tags are the layout's, and it stands within the text
-pub record Sound (t : List ℕ) (x : PlaceholderTold) : Type 0 where
-  pub placed : x .place .tag ≤ 2
-  pub wide : x .spec .width .tag ≤ 4
-  pub precise : x .spec .precision .tag ≤ 3
-  pub reached : x .to ≤ length t
-
--- the place that starts at a byte; one that is not written takes the argument's number
-unfoldable pub placeOf : ℕ → PartTold → ℕ → Place
-placeOf at p n = resolved (foundOf at p) n .place
-
--- the first eight numbers: the argument's bytes, its place and the place's span
-unfoldable pub toldHead : List ℕ → Frame → ℕ → PlaceholderTold → ℕ → List ℕ
-toldHead t f brace x n =
-    headWords 1 (rangeOf (place brace) (place (x .on))) (placeTag (placeOf (brace + 1) (x .place) n)) ++
-    placeWords (placeOf (brace + 1) (x .place) n) (spanBetween t f (place (brace + 1)) (place (x .to)))
-
--- a width that is a name, its `$` included
-unfoldable pub nameWords : List ℕ → Frame → ℕ → ℕ → ℕ → List ℕ
-nameWords t f from word end =
-    countWords
-    (Count.ByName (rangeOf (place from) (place word)) (spanBetween t f (place from) (place word)))
-    (MaybeSpan.Present (spanBetween t f (place from) (place end)))
-
--- how many arguments a width wants, by its tag: one that is a name wants none
-unfoldable pub widthWants : ℕ → PartTold → ℕ
-widthWants n p = pick (eqb (p .tag) 4) 0 (countWants (countOf n p))
-
--- the larger of a figure and what its counts want
-unfoldable pub withCounts : ℕ → ℕ → PlaceholderTold → ℕ
-withCounts n figure x = pick (x .colon) (larger (larger figure (widthWants n (x .spec .width))) (countWants (countOf n (x .spec .precision)))) figure
-
--- where reading stands after it
-unfoldable pub toldState : State → PlaceholderTold → State
-toldState s x =
-    stateOf (place (x .on)) (nextOf (s .next) x)
-    (larger (withCounts (s .next) (s .arguments) x) (placeWants (placeOf 0 (x .place) (afterStar (s .next) (x .spec .precision)))))
 
 -- what says why a closing brace was expected: the fill, which stands after the colon, if it is `}`, else the opening brace
 unfoldable pub whyTold : List ℕ → TextPlace → PlaceholderTold → TextPlace
@@ -93,22 +49,6 @@ missingTold t brace x =
 -- what may be wrong in it, in the order of reading
 unfoldable pub toldSlots : List ℕ → ℕ → PlaceholderTold → List Fault
 toldSlots t brace x = argumentSlots (blanksOf (brace + 1) x) ++ pick (x .closed) [] (missingTold t brace x)
-
--- nothing is wrong
-pub record Flawless (x : PlaceholderTold) : Type 0 where
-  pub closed : x .closed ≡ true
-  pub placed : x .place .blank ≡ false
-  pub wide : x .spec .width .blank ≡ false
-  pub typed : x .spec .typed .blank ≡ false
-
--- NUMBERS WRITTEN OVER, so many from a place on: where others are laid over all of them, nothing of them is left
-pub record Spoilt (k n : ℕ) (old new : List ℕ) : Type 0 where
-  pub gone : (j : ℕ) (ws : List ℕ) → j ≤ k → k + n ≤ j + length ws → j + length ws ≤ length old → laid new j ws ≡ laid old j ws
-
--- where something is told they are these
-pub record Put (told : Type 0) (k n : ℕ) (ws old new : List ℕ) : Type 0 where
-  pub wrote : told → new ≡ laid old k ws
-  pub spoilt : Spoilt k n old new
 
 -- THE STEP WHERE THE LANE STOPPED. What is told there is the placeholder of that step
 pub record Here (t : List ℕ) (f : Frame) (m : Mode) (s : State) (x : PlaceholderTold) : Type 0 where

@@ -6,7 +6,6 @@ use frame::Mode;
 use frame::TextPlace;
 use reading::State;
 use writing::Extent;
-ghost use mathlib.Core.Path.{_≡_};
 ghost use Prim.Native.Nat.{_*_, _≤_};
 ghost use lib.ListN.{length};
 ghost use Rattle.frame.specs.Bounds.{Small};

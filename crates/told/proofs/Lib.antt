@@ -1,0 +1,3 @@
+-- Laws that the proofs of `told` share.
+pub mod Spoiling
+pub mod Telling

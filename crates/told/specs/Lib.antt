@@ -1,0 +1,2 @@
+-- What is told of a placeholder, as it is written.
+pub mod Told

@@ -1,0 +1,307 @@
+// The parts of a placeholder that is told, written, and where reading stands after it.
+use frame::Frame;
+use frame::Span;
+use frame::TextPlace;
+use quick::PartTold;
+use quick::PlaceholderTold;
+use quick::TypeTold;
+use reading::State;
+use steps::wants::larger_of;
+use words::low;
+use words::put_zeros;
+use words::put4;
+ghost use mathlib.Core.Path.{_≡_};
+ghost use mathlib.Core.List.{_++_};
+ghost use Prim.Native.Nat.{_+_, _*_, _≤_, _<_};
+ghost use lib.Dec.{eqb};
+ghost use lib.ListN.{length};
+ghost use Rattle.utf8.specs.Choice.{pick};
+ghost use Rattle.utf8.specs.Utf8.{peekAt};
+ghost use Rattle.frame.specs.Places.{place as placeAt};
+ghost use Rattle.frame.specs.Bounds.{Small};
+ghost use Rattle.placeholder.specs.Specs.{noSpec};
+ghost use Rattle.reading.specs.Wants.{larger, countWants};
+ghost use Rattle.quick.specs.Tellings.{codeSeen, fillOf, countOf, widthOf, countSpan, typeSpan, afterStar};
+ghost use Rattle.words.specs.Laid.{laid};
+ghost use Rattle.words.specs.Layout.{lowOf, four, placeWords, fillWords, spanWords, countWords, specWords};
+ghost use Rattle.told.specs.Told.{Put, Sound, placeOf, toldHead, nameWords, widthWants, withCounts, toldState};
+
+// The place of what is told, which starts at `at`.
+fn put_told_place(out: &mut [u32], k: usize, place: PartTold, at: usize, next: usize, span: Span)
+    requires { ⌜ k + 4 ≤ length (now out) ⌝ }
+    ensures { λ _. ⌜ now (out .exit) ≡ laid (now (out .entry)) k (placeWords (placeOf at place next) span) ⌝ }
+{
+    let start = low(span.start.0);
+    let end = low(span.end.0);
+    if place.tag == 0 {
+        put4(out, k, low(next), 0, start, end);
+        return;
+    }
+    if place.tag == 1 {
+        put4(out, k, place.value as u32, 0, start, end);
+        return;
+    }
+    put4(out, k, low(at), low(place.end), start, end);
+}
+
+// The first eight numbers of what is told: its range, its place and the place's span.
+pub fn put_told_head(
+    out: &mut [u32],
+    k: usize,
+    text: &[u8],
+    frame: Frame,
+    brace: usize,
+    told: PlaceholderTold,
+    next: usize,
+)
+    requires { ⌜ Small (now text) frame × Sound (now text) told × (brace < 65535) × (k + 8 ≤ length (now out)) ⌝ }
+    ensures { λ _. ⌜ now (out .exit) ≡ laid (now (out .entry)) k (toldHead (now (text .entry)) frame brace told next) ⌝ }
+{
+    let place = told.place;
+    let span = frame::span_between(text, frame, TextPlace(brace + 1), TextPlace(told.to));
+    put4(&mut *out, k, 1, low(brace), low(told.on), place.tag as u32);
+    put_told_place(out, k + 4, place, brace + 1, next, span);
+}
+
+// What is told without a colon, as the n-th piece.
+pub fn put_bare(
+    out: &mut [u32],
+    n: usize,
+    text: &[u8],
+    frame: Frame,
+    brace: usize,
+    told: PlaceholderTold,
+    next: usize,
+)
+    requires { ⌜ Small (now text) frame × Sound (now text) told × (brace < 65535) × (40 * n + 40 ≤ length (now out)) ⌝ }
+    ensures { λ _. ⌜ now (out .exit) ≡ laid (now (out .entry)) (40 * n) (toldHead (now (text .entry)) frame brace told next ++ specWords (noSpec (placeAt (told .to)) next .spec)) ⌝ }
+{
+    let k = 40 * n;
+    let to = low(told.to);
+    put_told_head(&mut *out, k, text, frame, brace, told, next);
+    put_zeros(&mut *out, k + 8);
+    put4(&mut *out, k + 32, to, to, 0, 0);
+    put4(out, k + 36, 0, 0, 0, 0);
+}
+
+// The fill between two places; none where they are the same.
+pub fn put_told_fill(out: &mut [u32], k: usize, text: &[u8], frame: Frame, at: usize, past: usize)
+    requires { ⌜ Small (now text) frame × (k + 4 ≤ length (now out)) ⌝ }
+    ensures { λ _. ⌜ now (out .exit) ≡ laid (now (out .entry)) k (fillWords (fillOf (now (text .entry)) frame at past)) ⌝ }
+{
+    if at == past {
+        put4(out, k, 0, 0, 0, 0);
+        return;
+    }
+    let span = scan::span_across(text, frame, TextPlace(at), TextPlace(at));
+    put4(
+        out,
+        k,
+        1,
+        code_at(text, at),
+        low(span.start.0),
+        low(span.end.0),
+    );
+}
+
+// The code of the character at a place; 0 at the end.
+pub fn code_at(text: &[u8], at: usize) -> u32
+    ensures { λ r. ⌜ r ≡ codeSeen (peekAt (now (text .entry)) at) ⌝ }
+{
+    match utf8::peek(text, at) {
+        utf8::Seen::Char { code, width: _ } => code,
+        utf8::Seen::End => 0,
+    }
+}
+
+// A count's number: the next argument's for a star.
+fn count_value(part: PartTold, next: usize) -> u32
+    ensures { λ r. ⌜ r ≡ pick (eqb (part .tag) 3) (lowOf next) (part .value) ⌝ }
+{
+    if part.tag == 3 {
+        return low(next);
+    }
+    part.value as u32
+}
+
+// A width that is a name, from its first byte to where it ends; its `$` ends at `end`.
+fn put_told_name(
+    out: &mut [u32],
+    k: usize,
+    text: &[u8],
+    frame: Frame,
+    from: usize,
+    word: usize,
+    end: usize,
+)
+    requires { ⌜ Small (now text) frame × (k + 8 ≤ length (now out)) ⌝ }
+    ensures { λ _. ⌜ now (out .exit) ≡ laid (now (out .entry)) k (nameWords (now (text .entry)) frame from word end) ⌝ }
+{
+    let name = frame::span_between(text, frame, TextPlace(from), TextPlace(word));
+    let span = frame::span_between(text, frame, TextPlace(from), TextPlace(end));
+    put4(&mut *out, k, 4, low(from), low(word), low(name.start.0));
+    put4(
+        out,
+        k + 4,
+        low(name.end.0),
+        1,
+        low(span.start.0),
+        low(span.end.0),
+    );
+}
+
+// The width of a spec.
+pub fn put_told_width(
+    out: &mut [u32],
+    k: usize,
+    text: &[u8],
+    frame: Frame,
+    from: usize,
+    word: usize,
+    part: PartTold,
+    next: usize,
+)
+    requires { ⌜ Small (now text) frame × (k + 8 ≤ length (now out)) ⌝ }
+    ensures { λ _. ⌜ Put (part .tag ≤ 4) k 8 (countWords (widthOf (now (text .entry)) frame next from word part) (countSpan (now (text .entry)) frame from part)) (now (out .entry)) (now (out .exit)) ⌝ }
+{
+    if part.tag == 4 {
+        put_told_name(out, k, text, frame, from, word, part.end);
+        return;
+    }
+    put_told_count(out, k, text, frame, from, part, next);
+}
+
+// A count that starts at `from`.
+pub fn put_told_count(
+    out: &mut [u32],
+    k: usize,
+    text: &[u8],
+    frame: Frame,
+    from: usize,
+    part: PartTold,
+    next: usize,
+)
+    requires { ⌜ Small (now text) frame × (k + 8 ≤ length (now out)) ⌝ }
+    ensures { λ _. ⌜ Put (part .tag ≤ 3) k 8 (countWords (countOf next part) (countSpan (now (text .entry)) frame from part)) (now (out .entry)) (now (out .exit)) ⌝ }
+{
+    if part.tag == 0 {
+        put4(&mut *out, k, 0, 0, 0, 0);
+        put4(out, k + 4, 0, 0, 0, 0);
+        return;
+    }
+    let span = frame::span_between(text, frame, TextPlace(from), TextPlace(part.end));
+    put4(&mut *out, k, part.tag as u32, count_value(part, next), 0, 0);
+    put4(out, k + 4, 0, 1, low(span.start.0), low(span.end.0));
+}
+
+// A type that starts at `start`.
+pub fn put_told_type(
+    out: &mut [u32],
+    k: usize,
+    text: &[u8],
+    frame: Frame,
+    start: usize,
+    typed: TypeTold,
+)
+    requires { ⌜ Small (now text) frame × (k + 8 ≤ length (now out)) ⌝ }
+    ensures { λ _. ⌜ now (out .exit) ≡ laid (now (out .entry)) k (four (lowOf start) (lowOf (typed .end)) 0 0 ++ spanWords 0 (typeSpan (now (text .entry)) frame start typed)) ⌝ }
+{
+    put4(&mut *out, k, low(start), low(typed.end), 0, 0);
+    if typed.word {
+        let span = frame::span_between(text, frame, TextPlace(start), TextPlace(typed.end));
+        put4(out, k + 4, 0, 1, low(span.start.0), low(span.end.0));
+        return;
+    }
+    put4(out, k + 4, 0, 0, 0, 0);
+}
+
+// The next argument's number after a star.
+pub fn after_star(part: PartTold, next: usize) -> usize
+    requires { ⌜ next < 0xFFFFE ⌝ }
+    ensures { λ r. ⌜ r ≡ afterStar next part ⌝ }
+{
+    if part.tag == 3 { next + 1 } else { next }
+}
+
+// How many arguments a count wants that is neither absent nor fixed.
+fn count_wants(part: PartTold, next: usize) -> usize
+    requires { ⌜ (next < 0xFFFFF) × (1 < part .tag) ⌝ }
+    ensures { λ r. ⌜ r ≡ countWants (countOf next part) ⌝ }
+{
+    if part.tag == 2 {
+        return part.value as usize + 1;
+    }
+    next + 1
+}
+
+// The larger of a figure and what a count wants: most want none.
+fn with_count(part: PartTold, next: usize, figure: usize) -> usize
+    requires { ⌜ next < 0xFFFFF ⌝ }
+    ensures { λ r. ⌜ r ≡ larger figure (countWants (countOf next part)) ⌝ }
+{
+    if part.tag <= 1 {
+        return figure;
+    }
+    larger_of(figure, count_wants(part, next))
+}
+
+// The same of a width: one that is a name wants none.
+fn with_width(part: PartTold, next: usize, figure: usize) -> usize
+    requires { ⌜ next < 0xFFFFF ⌝ }
+    ensures { λ r. ⌜ r ≡ larger figure (widthWants next part) ⌝ }
+{
+    if part.tag <= 1 {
+        return figure;
+    }
+    if part.tag == 4 {
+        return figure;
+    }
+    larger_of(figure, count_wants(part, next))
+}
+
+// The same of what is told behind a colon.
+fn with_counts(told: PlaceholderTold, next: usize, figure: usize) -> usize
+    requires { ⌜ next < 0xFFFFF ⌝ }
+    ensures { λ r. ⌜ r ≡ withCounts next figure told ⌝ }
+{
+    if !told.colon {
+        return figure;
+    }
+    let spec = told.spec;
+    let wide = with_width(spec.width, next, figure);
+    with_count(spec.precision, next, wide)
+}
+
+// Where reading stands after what is told: a star takes an argument's number, and then a place that is not written.
+pub fn after_told(state: State, told: PlaceholderTold) -> State
+    requires { ⌜ state .next < 0xFFFFE ⌝ }
+    ensures { λ r. ⌜ r ≡ toldState state told ⌝ }
+{
+    let spec = told.spec;
+    let place = told.place;
+    let at = TextPlace(told.on);
+    let after = after_star(spec.precision, state.next);
+    let figure = with_counts(told, state.next, state.arguments);
+    if place.tag == 0 {
+        let next = after + 1;
+        let arguments = larger_of(figure, next);
+        return State {
+            at,
+            next,
+            arguments,
+        };
+    }
+    if place.tag == 1 {
+        let arguments = larger_of(figure, place.value as usize + 1);
+        return State {
+            at,
+            next: after,
+            arguments,
+        };
+    }
+    State {
+        at,
+        next: after,
+        arguments: figure,
+    }
+}
