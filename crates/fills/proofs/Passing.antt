@@ -25,67 +25,48 @@ use Rattle.words.specs.Laid.{laid}
 use Rattle.words.specs.LaidLaws.{pieceWords-length}
 use Rattle.words.specs.Layout.{literalWords, argumentWords, pieceWords}
 use Rattle.told.specs.Told.{Put, Flawless, toldState}
-use Rattle.fills.specs.Lane.{Here, Tried, Clear, PassedBy}
+use Rattle.fills.specs.declared.lane.Passed.{Passed}
+use Rattle.fills.specs.Lane.{Tried, Clear, PassedBy}
 use Rattle.fills.proofs.Wrongs.{flawless-none, told-wrong}
 use Rattle.fills.proofs.Stepping.{step-literal, step-open, step-told, told-on}
 
-module _ (t : List ℕ) (f : Frame) (m : Mode) (s : State) (n : ℕ) (ps : List ℕ) where
-  -- NOTHING IS TOLD: nothing is said of the step
-  pub here-none : {x : PlaceholderTold} → x .ok ≡ false → Here t f m s x
-  here-none o =
-      record {
-        within = λ y. absurd (true≢false (sym y ∙ o));
-        step = λ y. absurd (true≢false (sym y ∙ o));
-        reached = λ y. absurd (true≢false (sym y ∙ o));
-      }
+module _ (t : List ℕ) (f : Frame) (s : State) (n : ℕ) (ps : List ℕ) where
+  -- NOTHING WAS TRIED
+  pub tried-none : (m : Mode) → Tried t f m s n ps ps
+  tried-none m = record { left = refl }
 
-  -- and nothing is written
-  pub tried-none : {x : PlaceholderTold} → x .ok ≡ false → Tried t f m s n x ps ps
-  tried-none o = record { wrote = λ y. absurd (true≢false (sym y ∙ o)); left = λ _. refl }
-
-module _ (t : List ℕ) (f : Frame) (s : State) (n : ℕ) (ps : List ℕ) {ps′ : List ℕ} {a : State} {x : PlaceholderTold} where
-  -- a step that is not passed
-  pub stopped-at : Here t f Mode.Format s x → Tried t f Mode.Format s n x ps ps′ → PassedBy t f s n ps (record { on = false; state = a; told = x }) ps′
-  stopped-at h w =
+  -- A STEP THAT IS NOT PASSED
+  pub stopped-at : {r : Passed} → r .on ≡ false → {ps′ : List ℕ} → Tried t f Mode.Format s n ps ps′ → PassedBy t f s n ps r ps′
+  stopped-at o w =
       record {
-        clear = λ y. absurd (true≢false (sym y));
-        wrote = λ y. absurd (true≢false (sym y));
-        given = λ y. absurd (true≢false (sym y));
-        here = λ _. h;
+        clear = λ y. absurd (true≢false (sym y ∙ o));
+        wrote = λ y. absurd (true≢false (sym y ∙ o));
+        given = λ y. absurd (true≢false (sym y ∙ o));
         tried = λ _. w;
       }
 
-  -- one that is
-  passed-on : Clear t f Mode.Format s a → ps′ ≡ laid ps (40 * n) (gather pieceWords (piecesOf (stepAt t f Mode.Format s))) →
-      x .spec .given ≡ givenBy (stepAt t f Mode.Format s) → PassedBy t f s n ps (record { on = true; state = a; told = x }) ps′
-  passed-on c w g =
-      record {
-        clear = λ _. c;
-        wrote = λ _. w;
-        given = λ _. g;
-        here = λ y. absurd (true≢false y);
-        tried = λ y. absurd (true≢false y);
-      }
+  pub stopped-none : {r : Passed} → r .on ≡ false → PassedBy t f s n ps r ps
+  stopped-none o = stopped-at o (tried-none Mode.Format)
 
--- where nothing was tried
-pub stopped-none : (t : List ℕ) (f : Frame) (s : State) (n : ℕ) (ps : List ℕ) {a : State} {x : PlaceholderTold} → x .ok ≡ false →
-    PassedBy t f s n ps (record { on = false; state = a; told = x }) ps
-stopped-none t f s n ps o = stopped-at t f s n ps (here-none t f Mode.Format s n ps o) (tried-none t f Mode.Format s n ps o)
+  -- one that is
+  passed-on : {g : ℕ} {a : State} {ps′ : List ℕ} → Clear t f Mode.Format s a → ps′ ≡ laid ps (40 * n) (gather pieceWords (piecesOf (stepAt t f Mode.Format s))) →
+      g ≡ givenBy (stepAt t f Mode.Format s) → PassedBy t f s n ps (record { on = true; state = a; given = g }) ps′
+  passed-on c w g = record { clear = λ _. c; wrote = λ _. w; given = λ _. g; tried = λ y. absurd (true≢false y) }
 
 -- LITERAL TEXT is passed
 module _ (t : List ℕ) (f : Frame) (s : State) (n : ℕ) (ps : List ℕ) (h : s .at .0 < length t) (o : getD t (s .at .0) 0 ≡ 0x7B → ⊥) (d : getD t (s .at .0) 0 ≡ 0x7D → ⊥) where
   pub literal-fits : 40 * (n + length (piecesOf (stepAt t f Mode.Format s))) ≤ length ps → 40 * n + 40 ≤ length ps
   literal-fits r = let q = rw (← step-literal t f Mode.Format s h o d) at r in omega (arith, q)
 
-  pub literal-passed : {e : TextPlace} → e ≡ textEnd t (s .at) → {x : PlaceholderTold} → x .spec .given ≡ 0 → {ps′ : List ℕ} → ps′ ≡ laid ps (40 * n) (literalWords (rangeOf (s .at) e)) →
-      PassedBy t f s n ps (record { on = true; state = stateOf e (s .next) (s .arguments); told = x }) ps′
+  pub literal-passed : {e : TextPlace} → e ≡ textEnd t (s .at) → {ps′ : List ℕ} → ps′ ≡ laid ps (40 * n) (literalWords (rangeOf (s .at) e)) →
+      PassedBy t f s n ps (record { on = true; state = stateOf e (s .next) (s .arguments); given = 0 }) ps′
   unfolding stepSlots wrong
-  literal-passed {e} q {x} b {ps′} w =
+  literal-passed {e} q {ps′} w =
       let step : Step.Literal (rangeOf (s .at) e) ≡ stepAt t f Mode.Format s = ap (λ (p : TextPlace). Step.Literal (rangeOf (s .at) p)) q ∙ step-literal t f Mode.Format s h o d in
       passed-on t f s n ps
       (record { clean = rw (← step) refl; goes = rw (← step) refl; one = rw (← step) refl })
       (w ∙ ap (laid ps (40 * n)) (sym (gather-one pieceWords (Piece.Literal (rangeOf (s .at) e)))) ∙ ap (λ (y : Step). laid ps (40 * n) (gather pieceWords (piecesOf y))) step)
-      (rw (← step) b)
+      (rw (← step) refl)
 
 -- A PLACEHOLDER
 module _ (t : List ℕ) (f : Frame) (s : State) (n : ℕ) (ps : List ℕ) (h : s .at .0 < length t) (o : getD t (s .at .0) 0 ≡ 0x7B) (d : getD t (s .at .0 + 1) 0 ≡ 0x7B → ⊥) where
@@ -95,7 +76,7 @@ module _ (t : List ℕ) (f : Frame) (s : State) (n : ℕ) (ps : List ℕ) (h : s
   module _ (room : 40 * n + 40 ≤ length ps) {x : PlaceholderTold} {ps′ : List ℕ} (l : Tells t (s .at .0 + 1) x)
       (w : Put (x .ok ≡ true) (40 * n) 40 (argumentWords (argumentOf t f (s .at .0) (s .next) x)) ps ps′) where
     -- one that is not told: the step's own piece goes over what was tried
-    own-piece : laid ps′ (40 * n) (gather pieceWords (piecesOf (stepAt t f Mode.Format s))) ≡ laid ps (40 * n) (gather pieceWords (piecesOf (stepAt t f Mode.Format s)))
+    pub own-piece : laid ps′ (40 * n) (gather pieceWords (piecesOf (stepAt t f Mode.Format s))) ≡ laid ps (40 * n) (gather pieceWords (piecesOf (stepAt t f Mode.Format s)))
     own-piece =
         let step = step-open t f Mode.Format s h o d in
         let p = Piece.Placeholder (placeholderRead t f Mode.Format (s .at) (place (s .at .0 + 1)) (s .next) .argument) in
@@ -103,24 +84,15 @@ module _ (t : List ℕ) (f : Frame) (s : State) (n : ℕ) (ps : List ℕ) (h : s
         let c = pieceWords-length p in
         rw e (w .spoilt .gone (40 * n) (pieceWords p) (omega arith) (omega (arith, c)) (omega (arith, c, room)))
 
-    pub open-untold : x .ok ≡ false → {a : State} → PassedBy t f s n ps (record { on = false; state = a; told = x }) ps′
-    open-untold y =
-        stopped-at t f s n ps (here-none t f Mode.Format s n ps y)
-        (record { wrote = λ z. absurd (true≢false (sym z ∙ y)); left = λ _. own-piece })
+    pub open-left : {r : Passed} → r .on ≡ false → PassedBy t f s n ps r ps′
+    open-left o = stopped-at t f s n ps o (record { left = own-piece })
 
+    -- one in which nothing is wrong is passed
     module _ (y : x .ok ≡ true) where
       step : Step.Placeholder (toldRead t f (s .at .0) (s .next) x) ≡ stepAt t f Mode.Format s
       step = step-told t f s x h o d l y
 
-      -- one that is told, and in which something is wrong
-      pub open-flawed : {a : State} → PassedBy t f s n ps (record { on = false; state = a; told = x }) ps′
-      open-flawed =
-          stopped-at t f s n ps
-          (record { within = λ _. h; step = λ _. step; reached = l .reached })
-          (record { wrote = w .wrote; left = λ z. absurd (true≢false (sym y ∙ z)) })
-
-      -- one in which nothing is wrong is passed
-      pub open-passed : Flawless x → {a : State} → a ≡ toldState s x → PassedBy t f s n ps (record { on = true; state = a; told = x }) ps′
+      pub open-passed : Flawless x → {a : State} → a ≡ toldState s x → PassedBy t f s n ps (record { on = true; state = a; given = x .spec .given }) ps′
       unfolding toldRead
       open-passed p {a} q =
           passed-on t f s n ps

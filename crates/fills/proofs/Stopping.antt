@@ -1,59 +1,64 @@
--- The step where the lane stopped, written: what was told there, or the plain step. Rests on Lane and Stepping, and on writing's Stepping.
-use Prim.Native.Nat.{ℕ, _+_, _*_, _≤_}
-use mathlib.Core.Path.{_≡_, refl, sym, _∙_}
-use mathlib.Core.Bool.{Bool, true, false}
+-- The step where the lane stopped, written: what is told there, or the plain step. Rests on Lane, Stepping and Passing, and on writing's Stepping.
+use Prim.Native.Nat.{ℕ, _+_, _*_, _≤_, _<_}
+use mathlib.Core.Path.{_≡_, refl, _∙_}
+use mathlib.Core.Bool.{true, false}
 use mathlib.Core.List.{List}
-use native.Mathlib.Omega.{arith}
 use lib.ListN.{length}
 use Rattle.frame.specs.declared.Frame.{Frame}
 use Rattle.frame.specs.declared.Mode.{Mode}
-use Rattle.reading.specs.Lists.{gather}
 use Rattle.reading.specs.Steps.{stepAt}
 use Rattle.reading.specs.declared.State.{State}
-use Rattle.quick.specs.Tellings.{toldRead}
+use Rattle.reading.specs.declared.Step.{Step}
+use Rattle.quick.specs.Tellings.{argumentOf, toldRead, Tells}
+use Rattle.words.specs.Layout.{argumentWords}
+use Rattle.told.specs.Told.{Put, toldState}
 use Rattle.quick.specs.declared.PlaceholderTold.{PlaceholderTold}
 use Rattle.writing.specs.StepsWritten.{notedBy, noticed, Room, Notes, oneMore, StepRoom, SteppedOn}
 use Rattle.writing.specs.declared.Extent.{Extent}
 use Rattle.writing.specs.declared.StepWritten.{StepWritten}
-use Rattle.writing.proofs.Overlays.{laid-none}
-use Rattle.writing.proofs.Stepping.{stepped-end, stepped-on, stepped-over, argument-room}
-use Rattle.told.specs.Told.{toldState}
-use Rattle.fills.specs.Lane.{Here, Tried, toldSlots}
-use Rattle.fills.proofs.Stepping.{step-end, told-room, stepped-told, told-on}
+use Rattle.writing.proofs.Stepping.{stepped-end, stepped-on, stepped-over}
+use Rattle.fills.specs.Lane.{Open, Tried, toldSlots}
+use Rattle.fills.proofs.Stepping.{step-end, step-told, told-room, stepped-told, told-on}
+use Rattle.fills.proofs.Passing.{open-fits, own-piece}
 
-module _ (t : List ℕ) (f : Frame) (m : Mode) (s : State) {x : PlaceholderTold} (h : Here t f m s x) where
-  -- WHAT IS TOLD THERE: there is room for its records
-  module _ {k : Extent} {ps es : List ℕ} (y : x .ok ≡ true) (r : StepRoom (stepAt t f m s) k ps es) where
-    pub told-here : Room (notedBy k es) (noticed (k .pieces) (toldSlots t (s .at .0) x))
-    told-here = told-room t f (s .at .0) (s .next) x (rw (← h .step y) at r)
+-- AT THE END of the text nothing is written
+pub left-end : (t : List ℕ) (f : Frame) (m : Mode) (s : State) {k : Extent} {ps es : List ℕ} → length t ≤ s .at .0 →
+    SteppedOn t f m s k ps es (record { more = false; state = s; extent = k; given = 0 }) ps es
+left-end t f m s e = stepped-over t f m s (step-end t f m s e) (stepped-end t f) refl s refl
 
-    pub one-fits : 40 * k .pieces + 40 ≤ length ps
-    one-fits = argument-room t f (rw (← h .step y) at r)
+-- WHAT WAS TRIED before a step is gone when its piece is written
+pub left-over : (t : List ℕ) (f : Frame) (m : Mode) (s : State) {k : Extent} {ps ps₁ es : List ℕ} → Tried t f m s (k .pieces) ps ps₁ →
+    {o : StepWritten} {ps₂ es₂ : List ℕ} → SteppedOn t f m s k ps₁ es o ps₂ es₂ → SteppedOn t f m s k ps es o ps₂ es₂
+left-over t f m s w d =
+    record {
+      stepped = record { pieces = d .stepped .pieces; wrote = d .stepped .wrote ∙ w .left; noted = d .stepped .noted };
+      on = d .on;
+      over = d .over;
+      given = d .given;
+    }
 
-  module _ {k : Extent} {ps ps₁ es : List ℕ} (w : Tried t f m s (k .pieces) x ps ps₁) where
-    -- at the end of the text
-    pub left-end : length t ≤ s .at .0 → SteppedOn t f m s k ps es (record { more = false; state = s; extent = k; given = 0 }) ps₁ es
-    unfolding gather
-    left-end e = go (x .ok) refl
-      where
-        go : (b : Bool) → x .ok ≡ b → SteppedOn t f m s k ps es (record { more = false; state = s; extent = k; given = 0 }) ps₁ es
-        go true y = absurd (omega (arith, e, h .within y))
-        go false n =
-            let same : ps₁ ≡ ps = sym (laid-none ps₁ (40 * k .pieces)) ∙ rw (← step-end t f m s e) at (w .left n) ∙ laid-none ps (40 * k .pieces) in
-            rw same (stepped-over t f m s (step-end t f m s e) (stepped-end t f) refl s refl)
+-- A PLACEHOLDER, told or tried
+module _ (t : List ℕ) (f : Frame) (s : State) (h : s .at .0 < length t) (o : Open t Mode.Format (s .at .0)) {k : Extent} {ps es : List ℕ}
+    (r : StepRoom (stepAt t f Mode.Format s) k ps es) where
+  pub one-fits : 40 * k .pieces + 40 ≤ length ps
+  one-fits = open-fits t f s (k .pieces) ps h (o .brace) (o .alone) (r .pieces)
 
-    -- what is not told
-    pub left-plain : x .ok ≡ false → {o : StepWritten} {ps₂ es₂ : List ℕ} → SteppedOn t f m s k ps₁ es o ps₂ es₂ → SteppedOn t f m s k ps es o ps₂ es₂
-    left-plain n d =
-        record {
-          stepped = record { pieces = d .stepped .pieces; wrote = d .stepped .wrote ∙ w .left n; noted = d .stepped .noted };
-          on = d .on;
-          over = d .over;
-          given = d .given;
-        }
+  module _ {x : PlaceholderTold} {ps₁ : List ℕ} (l : Tells t (s .at .0 + 1) x)
+      (w : Put (x .ok ≡ true) (40 * k .pieces) 40 (argumentWords (argumentOf t f (s .at .0) (s .next) x)) ps ps₁) where
+    -- what is not told is yet to be written
+    pub open-tried : Tried t f Mode.Format s (k .pieces) ps ps₁
+    open-tried = record { left = own-piece t f s (k .pieces) ps h (o .brace) (o .alone) one-fits l w }
 
-    -- what is told
-    pub left-told : x .ok ≡ true → {a : State} → a ≡ toldState s x → {o r : Extent} {es₂ : List ℕ} → Notes t f k es (toldSlots t (s .at .0) x) o es₂ → r ≡ oneMore o →
-        SteppedOn t f m s k ps es (record { more = true; state = a; extent = r; given = x .spec .given }) ps₁ es₂
-    unfolding toldRead
-    left-told y q n e = stepped-on t f m s (h .step y) (stepped-told t f (s .at .0) (s .next) x (w .wrote y) n e) refl (told-on t f s x q)
+    module _ (y : x .ok ≡ true) where
+      step : Step.Placeholder (toldRead t f (s .at .0) (s .next) x) ≡ stepAt t f Mode.Format s
+      step = step-told t f s x h (o .brace) (o .alone) l y
+
+      -- there is room for the records of what is told
+      pub told-here : Room (notedBy k es) (noticed (k .pieces) (toldSlots t (s .at .0) x))
+      told-here = told-room t f (s .at .0) (s .next) x (rw (← step) at r)
+
+      -- and they are all that is left
+      pub open-told : {a : State} → a ≡ toldState s x → {q r₁ : Extent} {es₂ : List ℕ} → Notes t f k es (toldSlots t (s .at .0) x) q es₂ → r₁ ≡ oneMore q →
+          SteppedOn t f Mode.Format s k ps es (record { more = true; state = a; extent = r₁; given = x .spec .given }) ps₁ es₂
+      unfolding toldRead
+      open-told e n z = stepped-on t f Mode.Format s step (stepped-told t f (s .at .0) (s .next) x (w .wrote y) n z) refl (told-on t f s x e)

@@ -1,7 +1,6 @@
 -- The lane's steps, one after another: their pieces are laid as one. Rests on Lane, Spoiling and writing's Overlays, and on `laws`' StepLaws.
 use Prim.Native.Nat.{ℕ, _+_, _-_, _*_, _≤_, _<_}
 use mathlib.Core.Path.{_≡_, sym, ap, subst, _∙_}
-use mathlib.Core.Bool.{false}
 use mathlib.Core.List.{List, [], _++_}
 use native.Mathlib.Omega.{arith}
 use lib.ListN.{length, length-append}
@@ -14,14 +13,13 @@ use Rattle.laws.specs.StepLaws.{step-later}
 use Rattle.reading.specs.Steps.{stepAt}
 use Rattle.reading.specs.declared.Piece.{Piece}
 use Rattle.reading.specs.declared.State.{State}
-use Rattle.quick.specs.declared.PlaceholderTold.{PlaceholderTold}
 use Rattle.words.specs.Laid.{laid}
 use Rattle.words.specs.LaidLaws.{laid-length, laid-on, pieceWords-length}
 use Rattle.words.specs.Layout.{pieceWords}
 use Rattle.writing.proofs.Overlays.{laid-none, gather-length}
 use Rattle.fills.specs.declared.lane.Stopped.{Stopped}
-use Rattle.fills.specs.Lane.{Here, Tried, Clear, Way, LaneRoom, LaneRan}
-use Rattle.fills.proofs.Passing.{here-none, tried-none}
+use Rattle.fills.specs.Lane.{Tried, Clear, Way, LaneRoom, LaneRan}
+use Rattle.fills.proofs.Passing.{tried-none}
 
 -- WHERE THE LANE STANDS: the steps so far are passed, and their pieces written
 pub record OnWay (t : List ℕ) (f : Frame) (m : Mode) (s₀ : State) (n₀ : ℕ) (ps₀ : List ℕ) (s : State) (n g : ℕ) (ps : List ℕ) : Type 0 where
@@ -65,20 +63,18 @@ module _ (t : List ℕ) (f : Frame) (m : Mode) (s₀ : State) (n₀ : ℕ) (ps�
         }
 
     -- or the lane stops there
-    pub way-done : {x : PlaceholderTold} {ps₁ : List ℕ} → Here t f m s x → Tried t f m s n x ps ps₁ →
-        LaneRan t f m s₀ n₀ ps₀ (record { state = s; pieces = n; given = b; told = x }) ps₁
-    way-done h w = record { passed = g .passed; way = g .way; count = g .count; here = h; tried = rw (g .wrote) at w }
+    pub way-done : {ps₁ : List ℕ} → Tried t f m s n ps ps₁ → LaneRan t f m s₀ n₀ ps₀ (record { state = s; pieces = n; given = b }) ps₁
+    way-done w = record { passed = g .passed; way = g .way; count = g .count; tried = rw (g .wrote) at w }
 
   -- the lane that passes nothing
-  pub unmoved-ran : {r : Stopped} → r .state ≡ s₀ → r .pieces ≡ n₀ → r .given ≡ 0 → r .told .ok ≡ false → LaneRan t f m s₀ n₀ ps₀ r ps₀
+  pub unmoved-ran : {r : Stopped} → r .state ≡ s₀ → r .pieces ≡ n₀ → r .given ≡ 0 → LaneRan t f m s₀ n₀ ps₀ r ps₀
   unfolding gather
-  unmoved-ran {r} e c z o =
+  unmoved-ran {r} e c z =
       record {
         passed = [];
         way = rw (e, z) Way.none;
         count = omega (arith, c);
-        here = here-none t f m (r .state) (r .pieces) ps₀ o;
-        tried = rw (laid-none ps₀ (40 * n₀)) (tried-none t f m (r .state) (r .pieces) ps₀ o);
+        tried = rw (laid-none ps₀ (40 * n₀)) (tried-none t f (r .state) (r .pieces) ps₀ m);
       }
 
 -- a step that is passed passes a byte

@@ -4,7 +4,7 @@ use mathlib.Core.Path.{_≡_}
 use mathlib.Core.Bool.{true, false}
 use mathlib.Core.List.{List, [], _∷_, _++_}
 use lib.Dec.{eqb}
-use lib.ListN.{length}
+use lib.ListN.{length, getD}
 use Rattle.utf8.specs.Choice.{pick}
 use Rattle.utf8.specs.Utf8.{peekAt}
 use Rattle.frame.specs.Places.{place}
@@ -22,11 +22,10 @@ use Rattle.reading.specs.declared.Fault.{Fault}
 use Rattle.reading.specs.declared.Onward.{Onward}
 use Rattle.reading.specs.declared.Piece.{Piece}
 use Rattle.reading.specs.declared.State.{State}
-use Rattle.reading.specs.declared.Step.{Step}
-use Rattle.quick.specs.Tellings.{codeSeen, argumentOf, blanksOf, placedHint, toldRead}
+use Rattle.quick.specs.Tellings.{codeSeen, blanksOf, placedHint}
 use Rattle.quick.specs.declared.PlaceholderTold.{PlaceholderTold}
 use Rattle.words.specs.Laid.{laid}
-use Rattle.words.specs.Layout.{argumentWords, pieceWords}
+use Rattle.words.specs.Layout.{pieceWords}
 use Rattle.writing.specs.StepsWritten.{Noted, notedBy, notes}
 use Rattle.writing.specs.declared.Extent.{Extent}
 use Rattle.words.specs.Calls.{piecesIn}
@@ -50,17 +49,15 @@ missingTold t brace x =
 unfoldable pub toldSlots : List ℕ → ℕ → PlaceholderTold → List Fault
 toldSlots t brace x = argumentSlots (blanksOf (brace + 1) x) ++ pick (x .closed) [] (missingTold t brace x)
 
--- THE STEP WHERE THE LANE STOPPED. What is told there is the placeholder of that step
-pub record Here (t : List ℕ) (f : Frame) (m : Mode) (s : State) (x : PlaceholderTold) : Type 0 where
-  pub within : x .ok ≡ true → s .at .0 < length t
-  pub step : x .ok ≡ true → Step.Placeholder (toldRead t f (s .at .0) (s .next) x) ≡ stepAt t f m s
-  pub reached : x .ok ≡ true → x .to ≤ length t
+-- A PLACEHOLDER OF FORMAT MODE stands at a byte: a brace, and not two
+pub record Open (t : List ℕ) (m : Mode) (at : ℕ) : Type 0 where
+  pub mode : m ≡ Mode.Format
+  pub brace : getD t at 0 ≡ 0x7B
+  pub alone : getD t (at + 1) 0 ≡ 0x7B → ⊥
 
--- and its piece is written; where none is told, the step's own piece is yet to be laid over what was tried
-pub record Tried (t : List ℕ) (f : Frame) (m : Mode) (s : State) (n : ℕ) (x : PlaceholderTold) (ps ps′ : List ℕ) : Type 0 where
-  pub wrote : x .ok ≡ true → ps′ ≡ laid ps (40 * n) (argumentWords (argumentOf t f (s .at .0) (s .next) x))
-  pub left : x .ok ≡ false →
-      laid ps′ (40 * n) (gather pieceWords (piecesOf (stepAt t f m s))) ≡ laid ps (40 * n) (gather pieceWords (piecesOf (stepAt t f m s)))
+-- THE STEP WHERE THE LANE STOPPED: its own piece is yet to be laid over what was tried there
+pub record Tried (t : List ℕ) (f : Frame) (m : Mode) (s : State) (n : ℕ) (ps ps′ : List ℕ) : Type 0 where
+  pub left : laid ps′ (40 * n) (gather pieceWords (piecesOf (stepAt t f m s))) ≡ laid ps (40 * n) (gather pieceWords (piecesOf (stepAt t f m s)))
 
 -- A STEP THAT IS PASSED: nothing is wrong in it, it gives a piece, which is written, and reading goes on
 pub record Clear (t : List ℕ) (f : Frame) (m : Mode) (s s′ : State) : Type 0 where
@@ -71,9 +68,8 @@ pub record Clear (t : List ℕ) (f : Frame) (m : Mode) (s s′ : State) : Type 0
 pub record PassedBy (t : List ℕ) (f : Frame) (s : State) (n : ℕ) (ps : List ℕ) (r : Passed) (ps′ : List ℕ) : Type 0 where
   pub clear : r .on ≡ true → Clear t f Mode.Format s (r .state)
   pub wrote : r .on ≡ true → ps′ ≡ laid ps (40 * n) (gather pieceWords (piecesOf (stepAt t f Mode.Format s)))
-  pub given : r .on ≡ true → r .told .spec .given ≡ givenBy (stepAt t f Mode.Format s)
-  pub here : r .on ≡ false → Here t f Mode.Format s (r .told)
-  pub tried : r .on ≡ false → Tried t f Mode.Format s n (r .told) ps ps′
+  pub given : r .on ≡ true → r .given ≡ givenBy (stepAt t f Mode.Format s)
+  pub tried : r .on ≡ false → Tried t f Mode.Format s n ps ps′
 
 -- SUCH STEPS ONE AFTER ANOTHER, from a state to another: the pieces that they give, and how much they give back
 pub data Way (t : List ℕ) (f : Frame) (m : Mode) (s : State) : List Piece → ℕ → State → Type 0 where
@@ -92,8 +88,7 @@ pub record LaneRan (t : List ℕ) (f : Frame) (m : Mode) (s : State) (n : ℕ) (
   pub passed : List Piece
   pub way : Way t f m s passed (r .given) (r .state)
   pub count : r .pieces ≡ n + length passed
-  pub here : Here t f m (r .state) (r .told)
-  pub tried : Tried t f m (r .state) (r .pieces) (r .told) (laid ps (40 * n) (gather pieceWords passed)) ps′
+  pub tried : Tried t f m (r .state) (r .pieces) (laid ps (40 * n) (gather pieceWords passed)) ps′
 
 -- THE FIGURES OF A READING: how many arguments its pieces want, how much was given back, and where it stopped
 pub record Figures (t : List ℕ) (f : Frame) (m : Mode) (arguments back stop : ℕ) : Type 0 where

@@ -1,12 +1,9 @@
 // The lane: literal text and placeholders of Format mode, one after another, each part written as soon as it is read. It stops where the text ends, where
 // something is wrong, and where it does not tell what stands there. No struct is lent from inside its loop to a call that stays one (docs/SPEED.md).
-use crate::step::is_flawless;
 use crate::step::put_wrongs;
 use frame::Frame;
 use frame::Mode;
 use frame::TextPlace;
-use quick::PlaceholderTold;
-use quick::SignHint;
 use reading::State;
 use told::parts::after_told;
 use told::whole::write_placeholder;
@@ -17,46 +14,37 @@ use writing::one_more;
 use writing::write_step;
 ghost use mathlib.Core.Path.{_≡_};
 ghost use mathlib.Core.Bool.{true, false};
-ghost use mathlib.Core.List.{List};
-ghost use Prim.Native.Nat.{ℕ, _+_, _*_, _≤_, _<_};
+ghost use Prim.Native.Nat.{_+_, _*_, _≤_, _<_};
 ghost use lib.ListN.{length, getD};
 ghost use Rattle.frame.specs.Bounds.{Small};
 ghost use Rattle.frame.specs.declared.Mode.{Mode as Modes};
 ghost use Rattle.reading.specs.Lists.{piecesOf};
 ghost use Rattle.reading.specs.Steps.{stepAt};
 ghost use Rattle.writing.specs.StepsWritten.{StepRoom, SteppedOn};
-ghost use Rattle.fills.specs.Lane.{PassedBy, Here, Tried, LaneRoom, LaneRan};
+ghost use Rattle.fills.specs.Lane.{Open, PassedBy, LaneRoom, LaneRan};
 
-// A step of the lane: whether it is passed, and where reading then stands. If it is not, what is told there, if that is told.
+// A step of the lane: whether it is passed, where reading then stands, and how many characters it gave back.
 pub struct Passed {
     pub on: bool,
     pub state: State,
-    pub told: PlaceholderTold,
+    pub given: usize,
 }
 
-// Where the lane stopped, how many pieces are written before it, how many characters were given back on the way, and what is told there, if that is told:
-// its piece is written, its records are not.
+// Where the lane stopped, how many pieces are written before it, and how many characters were given back on the way.
 pub struct Stopped {
     pub state: State,
     pub pieces: usize,
     pub given: usize,
-    pub told: PlaceholderTold,
 }
 
-// Nothing is told, and nothing is given back.
-fn untold(at: usize) -> PlaceholderTold
-    ensures { λ r. ⌜ (r .ok ≡ false) × (r .spec .given ≡ 0) ⌝ }
+// A step that is not passed.
+fn stay(state: State) -> Passed
+    ensures { λ r. ⌜ r .on ≡ false ⌝ }
 {
-    PlaceholderTold {
-        ok: false,
-        place: quick::nothing(at),
-        to: at,
-        colon: false,
-        spec: quick::no_spec(at),
-        close: at,
-        closed: false,
-        hint: SignHint::Silent,
-        on: at,
+    Passed {
+        on: false,
+        state,
+        given: 0,
     }
 }
 
@@ -67,35 +55,21 @@ fn pass_brace(text: &[u8], frame: Frame, state: State, n: usize, pieces: &mut [u
 {
     let i = state.at.0;
     if utf8::byte(text, i + 1) == b'{' {
-        return Passed {
-            on: false,
-            state,
-            told: untold(i),
-        };
+        return stay(state);
     }
-    let told = write_placeholder(pieces, n, text, frame, i, state.next);
+    let told = flawless::write(pieces, n, text, frame, i, state.next);
     if !told.ok {
-        return Passed {
-            on: false,
-            state,
-            told,
-        };
+        return stay(state);
     }
-    if !is_flawless(told) {
-        return Passed {
-            on: false,
-            state,
-            told,
-        };
-    }
+    let spec = told.spec;
     Passed {
         on: true,
         state: after_told(state, told),
-        told,
+        given: spec.given,
     }
 }
 
-// The step where reading stands: passed where it is literal text, or a placeholder that is told and in which nothing is wrong.
+// The step where reading stands: passed where it is literal text, or a placeholder in which nothing is wrong.
 fn pass(text: &[u8], frame: Frame, state: State, n: usize, pieces: &mut [u32]) -> Passed
     requires { ⌜ Small (now text) frame × (state .next < 0xFFFFE) × (40 * (n + length (piecesOf (stepAt (now text) frame Modes.Format state))) ≤ length (now pieces)) ⌝ }
     ensures { λ r. ⌜ PassedBy (now (text .entry)) frame state n (now (pieces .entry)) r (now (pieces .exit)) ⌝ }
@@ -103,22 +77,14 @@ fn pass(text: &[u8], frame: Frame, state: State, n: usize, pieces: &mut [u32]) -
     let at = state.at;
     let i = at.0;
     if text.len() <= i {
-        return Passed {
-            on: false,
-            state,
-            told: untold(i),
-        };
+        return stay(state);
     }
     let b = text[i];
     if b == b'{' {
         return pass_brace(text, frame, state, n, pieces);
     }
     if b == b'}' {
-        return Passed {
-            on: false,
-            state,
-            told: untold(i),
-        };
+        return stay(state);
     }
     let end = scan::string_end(quick::whole(text), at);
     put_literal(pieces, n, i, end.0);
@@ -129,7 +95,7 @@ fn pass(text: &[u8], frame: Frame, state: State, n: usize, pieces: &mut [u32]) -
             next: state.next,
             arguments: state.arguments,
         },
-        told: untold(i),
+        given: 0,
     }
 }
 
@@ -150,22 +116,19 @@ fn lane(text: &[u8], frame: Frame, from: State, written: usize, pieces: &mut [u3
             arguments,
         };
         let step = pass(text, frame, state, n, &mut *pieces);
-        let told = step.told;
         let after = step.state;
         if !step.on {
             return Stopped {
                 state,
                 pieces: n,
                 given,
-                told,
             };
         }
-        let spec = told.spec;
         at = after.at.0;
         next = after.next;
         arguments = after.arguments;
         n += 1;
-        given += spec.given;
+        given += step.given;
     }
 }
 
@@ -201,29 +164,70 @@ pub fn lane_in(
 }
 
 fn unmoved(state: State, n: usize) -> Stopped
-    ensures { λ r. ⌜ (r .state ≡ state) × (r .pieces ≡ n) × (r .given ≡ 0) × (r .told .ok ≡ false) ⌝ }
+    ensures { λ r. ⌜ (r .state ≡ state) × (r .pieces ≡ n) × (r .given ≡ 0) ⌝ }
 {
     Stopped {
         state,
         pieces: n,
         given: 0,
-        told: untold(0),
     }
 }
 
-// The step where the lane stopped: the records of what is told there, else the plain step.
+// Whether a placeholder of Format mode stands at a byte of the text: a brace, and not two.
+fn is_open(text: &[u8], mode: Mode, at: usize) -> bool
+    requires { ⌜ at < length (now text) ⌝ }
+    ensures { λ r. ⌜ (r ≡ true → Open (now (text .entry)) mode at) ⌝ }
+{
+    match mode {
+        Mode::Format => {
+            if text[at] == b'{' {
+                return utf8::byte(text, at + 1) != b'{';
+            }
+            false
+        }
+        Mode::InlineAsm => false,
+        Mode::Diagnostic => false,
+    }
+}
+
+// A placeholder of Format mode: what is told there, with the records of what is wrong in it, else the plain step.
+fn write_open(
+    text: &[u8],
+    frame: Frame,
+    state: State,
+    pieces: &mut [u32],
+    errors: &mut [u32],
+    extent: Extent,
+) -> StepWritten
+    requires { ⌜ Small (now text) frame × (state .next < 0xFFFFE) × StepRoom (stepAt (now text) frame Modes.Format state) extent (now pieces) (now errors) × (state .at .0 < length (now text)) × Open (now text) Modes.Format (state .at .0) ⌝ }
+    ensures { λ r. ⌜ SteppedOn (now (text .entry)) frame Modes.Format state extent (now (pieces .entry)) (now (errors .entry)) r (now (pieces .exit)) (now (errors .exit)) ⌝ }
+{
+    let i = state.at.0;
+    let told = write_placeholder(&mut *pieces, extent.pieces, text, frame, i, state.next);
+    if !told.ok {
+        return write_step(text, frame, Mode::Format, state, pieces, errors, extent);
+    }
+    let spec = told.spec;
+    StepWritten {
+        more: true,
+        state: after_told(state, told),
+        extent: one_more(put_wrongs(text, frame, i, told, errors, extent)),
+        given: spec.given,
+    }
+}
+
+// The step where the lane stopped.
 pub fn write_left(
     text: &[u8],
     frame: Frame,
     mode: Mode,
     state: State,
-    told: PlaceholderTold,
     pieces: &mut [u32],
     errors: &mut [u32],
     extent: Extent,
 ) -> StepWritten
-    requires { ⌜ Small (now text) frame × (state .next < 0xFFFFE) × StepRoom (stepAt (now text) frame mode state) extent (now pieces) (now errors) × Here (now text) frame mode state told ⌝ }
-    ensures { λ r. ⌜ ((ps : List ℕ) → Tried (now (text .entry)) frame mode state (extent .pieces) told ps (now (pieces .entry)) → SteppedOn (now (text .entry)) frame mode state extent ps (now (errors .entry)) r (now (pieces .exit)) (now (errors .exit))) ⌝ }
+    requires { ⌜ Small (now text) frame × (state .next < 0xFFFFE) × StepRoom (stepAt (now text) frame mode state) extent (now pieces) (now errors) ⌝ }
+    ensures { λ r. ⌜ SteppedOn (now (text .entry)) frame mode state extent (now (pieces .entry)) (now (errors .entry)) r (now (pieces .exit)) (now (errors .exit)) ⌝ }
 {
     let i = state.at.0;
     if text.len() <= i {
@@ -234,14 +238,8 @@ pub fn write_left(
             given: 0,
         };
     }
-    if !told.ok {
-        return write_step(text, frame, mode, state, pieces, errors, extent);
+    if is_open(text, mode, i) {
+        return write_open(text, frame, state, pieces, errors, extent);
     }
-    let spec = told.spec;
-    StepWritten {
-        more: true,
-        state: after_told(state, told),
-        extent: one_more(put_wrongs(text, frame, i, told, errors, extent)),
-        given: spec.given,
-    }
+    write_step(text, frame, mode, state, pieces, errors, extent)
 }

@@ -58,7 +58,6 @@ fn run(
     loop {
         let stopped = lane_in(text, frame, mode, state, extent.pieces, &mut *pieces);
         let reached = stopped.state;
-        let told = stopped.told;
         let so_far = Extent {
             pieces: stopped.pieces,
             low: extent.low,
@@ -70,7 +69,6 @@ fn run(
             frame,
             mode,
             reached,
-            told,
             &mut *pieces,
             &mut *errors,
             so_far,

@@ -1,5 +1,5 @@
 -- What is told of each part is what is read, from the bytes at its place. Rests on Bytes and on the definitions of `scan` and `placeholder`.
-use Prim.Native.Nat.{ℕ, _+_, _≤_, _<_}
+use Prim.Native.Nat.{ℕ, zero, suc, _+_, _≤_, _<_}
 use mathlib.Core.Path.{_≡_, refl, sym, ap, _∙_}
 use mathlib.Core.Bool.{Bool, true, false, true≢false}
 use mathlib.Core.List.{List}
@@ -27,7 +27,7 @@ use Rattle.placeholder.specs.declared.MaybeSpan.{MaybeSpan}
 use Rattle.quick.specs.declared.PartTold.{PartTold}
 use Rattle.quick.specs.declared.TypeTold.{TypeTold}
 use Rattle.quick.specs.Tellings.{foundOf, countOf, widthOf, countSpan, backOf, fillOf, typeSpan, afterStar, blankFlaw}
-use Rattle.quick.specs.PartsTold.{Known, part, endsByte, alignByte, blankWord, NumberTold, PlaceTold, FillTold, CountGiven, WidthTold, PrecisionTold, TypeKnown}
+use Rattle.quick.specs.PartsTold.{Known, part, endsByte, alignByte, signByte, blankWord, NumberTold, PlaceTold, FillTold, CountGiven, WidthTold, PrecisionTold, TypeKnown}
 use Rattle.quick.proofs.Bytes.{byte-in, at-byte, has, lacks, align-byte, no-number, word-told}
 
 -- a part that is not told
@@ -64,6 +64,12 @@ implied n p = go (eqb (p .tag) 0) (eqb (p .tag) 1) (eqb (p .tag) 2)
 -- a sign of a type, after which a spec is at its end
 abbrev pub signOf : List ℕ → ℕ → TypeTold
 signOf t at = record { ok = endsByte (getD t (at + 1) 0); word = false; blank = false; end = at + 1 }
+
+-- such a sign is not 0
+pub sign-some : (b : ℕ) → signByte b ≡ true → 0 < b
+unfolding signByte pick
+sign-some zero y = absurd (true≢false (sym y))
+sign-some (suc k) y = omega arith
 
 -- after such a sign no other stands
 ends-not : {b : ℕ} (c : ℕ) → endsByte b ≡ true → (c ≡ 0x7D → ⊥) → (c ≡ 0x20 → ⊥) → b ≡ c → ⊥
@@ -316,6 +322,17 @@ module _ {t : List ℕ} {at : ℕ} where
         inside = let h = byte-in t at (omega arith) in omega arith;
       }
 
+  -- any of them
+  pub type-sign : signByte (getD t at 0) ≡ true → TypeKnown t at (signOf t at)
+  unfolding signByte pick
+  type-sign y = go (eqb (getD t at 0) 0x3F) refl (eqb (getD t at 0) 0x78) refl y
+    where
+      go : (a : Bool) → eqb (getD t at 0) 0x3F ≡ a → (b : Bool) → eqb (getD t at 0) 0x78 ≡ b → pick a true (pick b true (eqb (getD t at 0) 0x58)) ≡ true →
+          TypeKnown t at (signOf t at)
+      go true e b d _ = type-debug (eqb-true (getD t at 0) 0x3F e)
+      go false e true d _ = type-lower (eqb-true (getD t at 0) 0x78 d)
+      go false e false d q = type-upper (eqb-true (getD t at 0) 0x58 q)
+
   -- a word, or nothing
   pub type-word : {end : ℕ} → (getD t at 0 ≡ 0x3F → ⊥) → (getD t at 0 ≡ 0x78 → ⊥) → (getD t at 0 ≡ 0x58 → ⊥) →
       end ≡ wordEnd t (place at) .0 → at ≤ length t →
@@ -334,3 +351,16 @@ module _ {t : List ℕ} {at : ℕ} where
             );
         inside = rw e (word-in t (place at) h);
       }
+
+  -- where none of them stands
+  pub type-named : {end : ℕ} → signByte (getD t at 0) ≡ false → end ≡ wordEnd t (place at) .0 → at ≤ length t →
+      TypeKnown t at (record { ok = true; word = ltb at end; blank = blankWord (getD t at 0) at end; end = end })
+  unfolding signByte pick
+  type-named n =
+      type-word (λ q. true≢false (rw (eq-eqb (getD t at 0) 0x3F q) at n)) (λ q. true≢false (sign-lower q ∙ n)) (λ q. true≢false (sign-upper q ∙ n))
+    where
+      sign-lower : getD t at 0 ≡ 0x78 → true ≡ signByte (getD t at 0)
+      sign-lower q = rw q
+
+      sign-upper : getD t at 0 ≡ 0x58 → true ≡ signByte (getD t at 0)
+      sign-upper q = rw q

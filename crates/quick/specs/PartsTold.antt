@@ -45,6 +45,10 @@ part tag value end blank = record { tag = tag; value = value; end = end; blank =
 unfoldable pub alignByte : ℕ → Bool
 alignByte b = pick (eqb b 0x3C) true (pick (eqb b 0x3E) true (eqb b 0x5E))
 
+-- a byte that is a sign of a type: `?`, `x` or `X`
+unfoldable pub signByte : ℕ → Bool
+signByte b = pick (eqb b 0x3F) true (pick (eqb b 0x78) true (eqb b 0x58))
+
 -- a byte after which a spec is at its end: a `}` or a space
 unfoldable pub endsByte : ℕ → Bool
 endsByte b = pick (eqb b 0x7D) true (eqb b 0x20)

@@ -6,7 +6,8 @@ use placeholder::Sign;
 use utf8::Seen;
 ghost use mathlib.Core.Path.{_≡_};
 ghost use mathlib.Core.Bool.{true, false};
-ghost use Prim.Native.Nat.{ℕ, _+_, _≤_};
+ghost use Prim.Native.Nat.{_+_, _≤_};
+ghost use lib.Dec.{ltb};
 ghost use lib.ListN.{getD};
 ghost use Rattle.frame.specs.Places.{place};
 ghost use Rattle.utf8.specs.Chars.{runEnd};
@@ -14,7 +15,7 @@ ghost use Rattle.letters.specs.Questions.{isSpace};
 ghost use Rattle.letters.specs.Ascii.{asciiContinue};
 ghost use Rattle.scan.specs.Words.{isDigit, wordEnd};
 ghost use Rattle.quick.specs.Tellings.{backOf};
-ghost use Rattle.quick.specs.PartsTold.{Room, part, alignByte, endsByte, blankWord, hintOf, onwardOf, AsciiRun, WordKnown, NumberTold, PlaceTold, FillTold, CountGiven, WidthTold, PrecisionTold, TypeKnown, AllTold, NoSpec, LeftTold};
+ghost use Rattle.quick.specs.PartsTold.{Room, part, alignByte, signByte, endsByte, blankWord, hintOf, onwardOf, AsciiRun, WordKnown, NumberTold, PlaceTold, FillTold, CountGiven, WidthTold, PrecisionTold, TypeKnown, AllTold, NoSpec, LeftTold};
 
 // A place or a count. Tag 0: nothing; 1: a number; 2: of a place a word, of a count a number with `$`; 3: a star; 4: a word with `$`; 9: it is
 // not told. `blank`: the word `_` stands there, which is a fault.
@@ -99,14 +100,14 @@ pub fn space_end(text: &[u8], at: usize) -> usize
     letters::space_end(whole(text), at)
 }
 
-fn is_digit(b: u8) -> bool
+pub fn is_digit(b: u8) -> bool
     ensures { λ r. ⌜ r ≡ isDigit b ⌝ }
 {
     if 0x30 <= b { b <= 0x39 } else { false }
 }
 
 // The number at a place, of at most four digits.
-fn number(text: &[u8], at: usize) -> PartTold
+pub fn number(text: &[u8], at: usize) -> PartTold
     requires { ⌜ Room (now text) at × (isDigit (getD (now text) at 0) ≡ true) ⌝ }
     ensures { λ r. ⌜ NumberTold (now (text .entry)) at r ⌝ }
 {
@@ -127,7 +128,7 @@ fn number(text: &[u8], at: usize) -> PartTold
 }
 
 // A part in which nothing is wrong.
-fn plain(tag: u8, value: u16, end: usize) -> PartTold
+pub fn plain(tag: u8, value: u16, end: usize) -> PartTold
     ensures { λ r. ⌜ r ≡ part tag value end false ⌝ }
 {
     PartTold {
@@ -138,7 +139,7 @@ fn plain(tag: u8, value: u16, end: usize) -> PartTold
     }
 }
 
-fn untold(at: usize) -> PartTold
+pub fn untold(at: usize) -> PartTold
     ensures { λ r. ⌜ r ≡ part 9 0 at false ⌝ }
 {
     plain(9, 0, at)
@@ -200,7 +201,7 @@ pub fn word_at(text: &[u8], at: usize) -> WordTold
 }
 
 // Where the word at a place ends.
-fn word_end(text: &[u8], at: usize) -> usize
+pub fn word_end(text: &[u8], at: usize) -> usize
     requires { ⌜ Room (now text) at ⌝ }
     ensures { λ r. ⌜ r ≡ wordEnd (now (text .entry)) (place at) .0 ⌝ }
 {
@@ -368,7 +369,7 @@ pub fn precision(text: &[u8], at: usize) -> PartTold
 }
 
 // A sign of a type, `?`, `x` or `X`: alone it is told.
-fn sign_type(text: &[u8], at: usize) -> TypeTold
+pub fn sign_type(text: &[u8], at: usize) -> TypeTold
     requires { ⌜ Room (now text) (at + 1) ⌝ }
     ensures { λ r. ⌜ r ≡ record { ok = endsByte (getD (now (text .entry)) (at + 1) 0); word = false; blank = false; end = at + 1 } ⌝ }
 {
@@ -378,6 +379,32 @@ fn sign_type(text: &[u8], at: usize) -> TypeTold
         word: false,
         blank: false,
         end: at + 1,
+    }
+}
+
+// Whether a byte is a sign of a type.
+pub fn is_type_sign(b: u8) -> bool
+    ensures { λ r. ⌜ r ≡ signByte b ⌝ }
+{
+    if b == b'?' {
+        return true;
+    }
+    if b == b'x' {
+        return true;
+    }
+    b == b'X'
+}
+
+// A type that is the word from `at` to `end`, whose first byte is given; none where they are the same.
+pub fn word_type(b: u8, at: usize, end: usize) -> TypeTold
+    requires { ⌜ at ≤ 65535 ⌝ }
+    ensures { λ r. ⌜ r ≡ record { ok = true; word = ltb at end; blank = blankWord b at end; end = end } ⌝ }
+{
+    TypeTold {
+        ok: true,
+        word: at < end,
+        blank: is_blank(b, at, end),
+        end,
     }
 }
 
@@ -397,22 +424,11 @@ pub fn type_at(text: &[u8], at: usize, from: usize, word: usize) -> TypeTold
     ensures { λ r. ⌜ TypeKnown (now (text .entry)) at r ⌝ }
 {
     let b = utf8::byte(text, at);
-    if b == b'?' {
-        return sign_type(text, at);
-    }
-    if b == b'x' {
-        return sign_type(text, at);
-    }
-    if b == b'X' {
+    if is_type_sign(b) {
         return sign_type(text, at);
     }
     let end = if at == from { word } else { word_end(text, at) };
-    TypeTold {
-        ok: true,
-        word: at < end,
-        blank: is_blank(b, at, end),
-        end,
-    }
+    word_type(b, at, end)
 }
 
 // Whether the parts of a spec are told. A `0` with `$` is no flag, and is not told.

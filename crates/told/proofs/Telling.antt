@@ -362,7 +362,12 @@ module _ (t : List ℕ) (f : Frame) (start : ℕ) (x : TypeTold) where
   unfolding typeSpan pick
   type-sign e l k h w₁ w₂ = rw e (two-laid l k (four (lowOf start) (lowOf (x .end)) 0 0) none (k + 4) (omega arith) (omega arith) w₁ w₂)
 
--- THE SPEC: its parts are laid one after another
+-- THE SPEC: its fill and its marks
+pub marks-spoilt : (t : List ℕ) (f : Frame) (at past : ℕ) (ms : List ℕ) → length ms ≡ 4 → (l : List ℕ) (k : ℕ) → k + 8 ≤ length l → {l₁ l₂ : List ℕ} →
+    l₁ ≡ laid l k (fillWords (fillOf t f at past)) → l₂ ≡ laid l₁ (k + 4) ms → Spoilt k 8 l l₂
+marks-spoilt t f at past ms c l k room w₁ w₂ = spoilt-two l k (fillWords (fillOf t f at past)) ms (fillWords-length (fillOf t f at past)) c room w₁ w₂
+
+-- its parts are laid one after another
 module _ (t : List ℕ) (f : Frame) (at n : ℕ) (x : SpecTold) (l : List ℕ) (k : ℕ) (room : k + 32 ≤ length l) where
   spec-laid : {l₁ l₂ l₃ l₄ l₅ : List ℕ} → l₁ ≡ laid l k (fillWords (fillOf t f at (x .fill))) →
       l₂ ≡ laid l₁ (k + 4) (four (alignOf (x .align)) (signOf (x .sign)) (bitOf (x .alternate)) (bitOf (x .zero))) →
@@ -392,10 +397,9 @@ module _ (t : List ℕ) (f : Frame) (at n : ℕ) (x : SpecTold) (l : List ℕ) (
       l₅ ≡ laid l₄ (k + 24) (four (lowOf (x .precision .end)) (lowOf (x .typed .end)) 0 0 ++ spanWords 0 (typeSpan t f (x .precision .end) (x .typed))) →
       length l₂ ≡ length l → length l₃ ≡ length l → length l₄ ≡ length l → Put told k 32 (specWords (specOf t f at n x)) l l₅
   spec-put known {l₁} {l₂} {l₃} {l₄} {l₅} w₁ w₂ w₃ w₄ w₅ e₂ e₃ e₄ =
-      let fill = fillOf t f at (x .fill) in
       let last = four (lowOf (x .precision .end)) (lowOf (x .typed .end)) 0 0 ++ spanWords 0 (typeSpan t f (x .precision .end) (x .typed)) in
       let c : length last ≡ 8 = omega (arith, length-append (four (lowOf (x .precision .end)) (lowOf (x .typed .end)) 0 0) (spanWords 0 (typeSpan t f (x .precision .end) (x .typed))), spanWords-length 0 (typeSpan t f (x .precision .end) (x .typed))) in
-      let a = spoilt-two l k (fillWords fill) (four (alignOf (x .align)) (signOf (x .sign)) (bitOf (x .alternate)) (bitOf (x .zero))) (fillWords-length fill) refl (omega (arith, room)) w₁ w₂ in
+      let a = marks-spoilt t f at (x .fill) (four (alignOf (x .align)) (signOf (x .sign)) (bitOf (x .alternate)) (bitOf (x .zero))) refl l k (omega (arith, room)) w₁ w₂ in
       let b : Spoilt k 32 l l₃ = spoilt-then a (omega arith) (omega arith) (w₃ .spoilt) (omega arith) (omega arith) e₂ in
       let d : Spoilt k 32 l l₄ = spoilt-then b (omega arith) (omega arith) (w₄ .spoilt) (omega arith) (omega arith) e₃ in
       record {

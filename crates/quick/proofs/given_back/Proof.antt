@@ -1,7 +1,6 @@
 -- `quick::given_back` meets its contract: nothing of a word that is a width, and of another each character.
 use borrow.Author.Needs.{needs}
 use borrow.Author.Tests.{eq-eqb, ne-eqb}
-use mathlib.Core.Path.{sym, _∙_}
 use native.Mathlib.Omega.{arith}
 use Rattle.utf8.specs.Choice.{pick}
 use Rattle.quick.specs.Tellings.{backOf}

@@ -1,6 +1,6 @@
 -- `quick::space_end` meets its contract: an ASCII character above the space is no whitespace.
 use borrow.Author.Needs.{needs}
-use mathlib.Core.Path.{sym, _∙_}
+use mathlib.Core.Path.{sym}
 use denote.Ref.{now}
 use Rattle.quick.proofs.Bytes.{no-space}
 use Rattle.quick.proofs.space_end.Statement.{statement}

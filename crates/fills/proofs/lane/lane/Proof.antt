@@ -24,49 +24,43 @@ loop-holds c = let a = c .before .before .args in way-first (now (a .text)) (a .
 
 pass-requires : tie.Need-pass-requires Inv-loop μ-loop
 pass-requires c κs =
-    let s = c .before .before .before .before in
-    let a = s .args in
+    let a = c .before .before .before .before .args in
     let g = c .before .loop .inv in
-    (s .pre .0, s .pre .1 .next (g .way), way-room (now (a .text)) (a .frame) Mode.Format (a .from) (a .written) (now (a .pieces)) (s .pre .1) g)
+    (c .before .before .before .before .pre .0, c .before .before .before .before .pre .1 .next (g .way), way-room (now (a .text)) (a .frame) Mode.Format (a .from) (a .written) (now (a .pieces)) (c .before .before .before .before .pre .1) g)
 
 same-length : tie.Need-same-length Inv-loop μ-loop
 same-length c =
-    let s = c .before .before .before .before .before .before .before .before .before .before .before in
-    let a = s .args in
-    c .before .before .before .before .before .pieces .given ∙ way-same (now (a .text)) (a .frame) Mode.Format (a .from) (a .written) (now (a .pieces)) (s .pre .1) (c .before .before .before .before .before .before .before .before .loop .inv)
+    let a = c .before .before .before .before .before .before .before .before .before .before .args in
+    c .before .before .before .before .pieces .given ∙ way-same (now (a .text)) (a .frame) Mode.Format (a .from) (a .written) (now (a .pieces)) (c .before .before .before .before .before .before .before .before .before .before .pre .1) (c .before .before .before .before .before .before .before .loop .inv)
 
 returns : tie.Need-returns Inv-loop μ-loop
 returns c =
-    let s = c .before .before .before .before .before .before .before .before .before .before .before in
-    let a = s .args in
+    let a = c .before .before .before .before .before .before .before .before .before .before .args in
     let no = not-true _ (c .if1 .taken) in
-    let p = c .before .before .before .before .before .before .pass .ensures in
-    way-done (now (a .text)) (a .frame) Mode.Format (a .from) (a .written) (now (a .pieces)) (s .pre .1) (c .before .before .before .before .before .before .before .before .loop .inv) (p .here no) (p .tried no)
+    let p = c .before .before .before .before .before .pass .ensures in
+    way-done (now (a .text)) (a .frame) Mode.Format (a .from) (a .written) (now (a .pieces)) (c .before .before .before .before .before .before .before .before .before .before .pre .1) (c .before .before .before .before .before .before .before .loop .inv) (p .tried no)
 
 add-n : tie.Need-add-n Inv-loop μ-loop
 add-n c =
-    let s = c .before .before .before .before .before .before .before .before .before .before .before .before in
-    let g = c .before .before .before .before .before .before .before .before .before .loop .inv in
-    omega (arith, s .pre .1 .pieces (g .way), g .count, s .good)
+    let g = c .before .before .before .before .before .before .before .loop .inv in
+    omega (arith, c .before .before .before .before .before .before .before .before .before .before .pre .1 .pieces (g .way), g .count, c .before .before .before .before .before .before .before .before .before .before .good)
 
 add-given : tie.Need-add-given Inv-loop μ-loop
 add-given c =
-    let s = c .before .before .before .before .before .before .before .before .before .before .before .before .before in
-    let g = c .before .before .before .before .before .before .before .before .before .before .loop .inv in
-    omega (arith, s .pre .1 .given (g .way), c .before .before .before .before .before .before .before .before .pass .ensures .given (not-false _ (c .before .before .if1 .left)))
+    let g = c .before .before .before .before .before .before .before .before .loop .inv in
+    omega (arith, c .before .before .before .before .before .before .before .before .before .before .before .pre .1 .given (g .way), c .before .before .before .before .before .before .pass .ensures .given (not-false _ (c .before .if1 .left)))
 
 loop-less : tie.Need-loop-less Inv-loop μ-loop
 loop-less c =
-    let a = c .before .before .before .before .before .before .before .before .before .before .before .before .before .args in
-    clear-later (now (a .text)) (a .frame) Mode.Format _ _ (c .before .before .before .before .before .before .before .before .pass .ensures .clear (not-false _ (c .before .before .if1 .left)))
+    let a = c .before .before .before .before .before .before .before .before .before .before .before .args in
+    clear-later (now (a .text)) (a .frame) Mode.Format _ _ (c .before .before .before .before .before .before .pass .ensures .clear (not-false _ (c .before .if1 .left)))
 
 loop-again : tie.Need-loop-again Inv-loop μ-loop
 loop-again c =
-    let s = c .before .before .before .before .before .before .before .before .before .before .before .before .before in
-    let a = s .args in
-    let yes = not-false _ (c .before .before .if1 .left) in
-    let p = c .before .before .before .before .before .before .before .before .pass .ensures in
-    way-on (now (a .text)) (a .frame) Mode.Format (a .from) (a .written) (now (a .pieces)) (s .pre .1) (c .before .before .before .before .before .before .before .before .before .before .loop .inv) (p .clear yes) (p .wrote yes) (p .given yes)
+    let a = c .before .before .before .before .before .before .before .before .before .before .before .args in
+    let yes = not-false _ (c .before .if1 .left) in
+    let p = c .before .before .before .before .before .before .pass .ensures in
+    way-on (now (a .text)) (a .frame) Mode.Format (a .from) (a .written) (now (a .pieces)) (c .before .before .before .before .before .before .before .before .before .before .before .pre .1) (c .before .before .before .before .before .before .before .before .loop .inv) (p .clear yes) (p .wrote yes) (p .given yes)
 
 pub lane-spec : {M : Type 1} → statement M
 lane-spec =

@@ -36,10 +36,10 @@ returns : tie.Need-returns
 returns c = rw (c .before .before .before .before .before .before .enum-told .given .1) (rw (c .before .before .before .before .before .whole .ensures, c .before .before .before .before .own .ensures) at (c .before .before .lane .ensures))
 
 returns-2 : tie.Need-returns-2
-returns-2 c = let a = c .before .before .before .before .before .args in let e = c .unmoved .ensures in unmoved-ran (now (a .text)) (a .frame) (a .mode) (a .state) (a .n) (now (a .pieces)) (e .0) (e .1) (e .2) (e .3)
+returns-2 c = let a = c .before .before .before .before .before .args in let e = c .unmoved .ensures in unmoved-ran (now (a .text)) (a .frame) (a .mode) (a .state) (a .n) (now (a .pieces)) (e .0) (e .1) (e .2)
 
 returns-3 : tie.Need-returns-3
-returns-3 c = let a = c .before .before .before .before .before .args in let e = c .unmoved2 .ensures in unmoved-ran (now (a .text)) (a .frame) (a .mode) (a .state) (a .n) (now (a .pieces)) (e .0) (e .1) (e .2) (e .3)
+returns-3 c = let a = c .before .before .before .before .before .args in let e = c .unmoved2 .ensures in unmoved-ran (now (a .text)) (a .frame) (a .mode) (a .state) (a .n) (now (a .pieces)) (e .0) (e .1) (e .2)
 
 pub lane-in-spec : {M : Type 1} → statement M
 lane-in-spec =

@@ -5,11 +5,11 @@ use Rattle.fills.proofs.Passing.{stopped-none, literal-fits, literal-pa
 use Rattle.fills.proofs.lane.pass.Statement.{statement}
 use Rattle.fills.proofs.lane.pass.Tie as tie
 
-untold-requires : tie.Need-untold-requires
-untold-requires c κs = search needs
+stay-requires : tie.Need-stay-requires
+stay-requires c κs = search needs
 
 returns : tie.Need-returns
-returns c = let a = c .before .before .before .before .before .args in stopped-none (now (a .text)) (a .frame) (a .state) (a .n) (now (a .pieces)) (c .untold .ensures .0)
+returns c = let a = c .before .before .before .before .before .args in stopped-none (now (a .text)) (a .frame) (a .state) (a .n) (now (a .pieces)) (c .stay .ensures)
 
 shared-slice-read-b : tie.Need-shared-slice-read-b
 shared-slice-read-b c = search needs
@@ -23,11 +23,11 @@ same-length c = search needs
 returns-2 : tie.Need-returns-2
 returns-2 c = search needs
 
-untold-requires-2 : tie.Need-untold-requires-2
-untold-requires-2 c κs = search needs
+stay-requires-2 : tie.Need-stay-requires-2
+stay-requires-2 c κs = search needs
 
 returns-3 : tie.Need-returns-3
-returns-3 c = let a = c .before .before .before .before .before .before .before .before .args in stopped-none (now (a .text)) (a .frame) (a .state) (a .n) (now (a .pieces)) (c .untold2 .ensures .0)
+returns-3 c = let a = c .before .before .before .before .before .before .before .before .args in stopped-none (now (a .text)) (a .frame) (a .state) (a .n) (now (a .pieces)) (c .stay2 .ensures)
 
 whole-requires : tie.Need-whole-requires
 whole-requires c κs = search needs
@@ -40,32 +40,28 @@ put-literal-requires c κs =
     let a = c .before .before .before .before .before .before .before .before .before .before .args in
     literal-fits (now (a .text)) (a .frame) (a .state) (a .n) (now (a .pieces)) (c .before .before .before .before .before .before .if1 .left) (c .before .before .before .before .if2 .left) (c .before .before .before .if3 .left) (c .before .before .before .before .before .before .before .before .before .before .pre .2)
 
-untold-requires-3 : tie.Need-untold-requires-3
-untold-requires-3 c κs = search needs
-
 same-length-2 : tie.Need-same-length-2
 same-length-2 c = search needs
 
 returns-4 : tie.Need-returns-4
 returns-4 c =
-    let a = c .before .before .before .before .before .before .before .before .before .before .before .before .before .before .args in
-    literal-passed (now (a .text)) (a .frame) (a .state) (a .n) (now (a .pieces)) (c .before .before .before .before .before .before .before .before .before .before .if1 .left) (c .before .before .before .before .before .before .before .before .if2 .left) (c .before .before .before .before .before .before .before .if3 .left) (rw (c .before .before .before .before .before .before .whole .ensures) at (c .before .before .before .before .before .string-end .ensures)) (c .untold3 .ensures .1) (c .before .before .before .put-literal .ensures)
+    let a = c .before .before .before .before .before .before .before .before .before .before .before .before .before .args in
+    literal-passed (now (a .text)) (a .frame) (a .state) (a .n) (now (a .pieces)) (c .before .before .before .before .before .before .before .before .before .if1 .left) (c .before .before .before .before .before .before .before .if2 .left) (c .before .before .before .before .before .before .if3 .left) (rw (c .before .before .before .before .before .whole .ensures) at (c .before .before .before .before .string-end .ensures)) (c .before .before .put-literal .ensures)
 
 pub pass-spec : {M : Type 1} → statement M
 pass-spec =
     tie.close
     (tie.spec
-    untold-requires
+    stay-requires
     returns
     shared-slice-read-b
     pass-brace-requires
     same-length
     returns-2
-    untold-requires-2
+    stay-requires-2
     returns-3
     whole-requires
     string-end-requires
     put-literal-requires
-    untold-requires-3
     same-length-2
     returns-4)

@@ -7,6 +7,7 @@ use mathlib.Core.Path.{_∙_}
 use lib.ListN.{length}
 use denote.Ref.{now}
 use Rattle.fills.proofs.Running.{Underway, underway-first, underway-on, underway-over, standing-next, lane-room, lane-underway, lane-left, back-few, run-later}
+use Rattle.fills.proofs.Stopping.{left-over}
 use Rattle.fills.proofs.run.run.Statement.{statement}
 use Rattle.fills.proofs.run.run.Tie as tie
 
@@ -19,70 +20,62 @@ abbrev μ-loop : tie.MeasureT-loop
 
 loop-holds : tie.Need-loop-holds Inv-loop μ-loop
 loop-holds c =
-    let s = c .before .before .before in
-    let a = s .args in
-    underway-first (now (a .text)) (a .frame) (a .mode) (a .fronts) (now (a .pieces)) (now (a .errors)) (s .pre .1) (s .pre .0) (s .pre .2) (s .pre .3)
+    let a = c .before .before .before .args in
+    underway-first (now (a .text)) (a .frame) (a .mode) (a .fronts) (now (a .pieces)) (now (a .errors)) (c .before .before .before .pre .1) (c .before .before .before .pre .0) (c .before .before .before .pre .2) (c .before .before .before .pre .3)
 
 lane-in-requires : tie.Need-lane-in-requires Inv-loop μ-loop
 lane-in-requires c κs =
-    let s = c .before .before .before .before .before in
-    let a = s .args in
-    (s .pre .0, lane-room (now (a .text)) (a .frame) (a .mode) (a .fronts) (now (a .pieces)) (now (a .errors)) (s .pre .1) (s .pre .0 .text) (c .before .loop .inv))
+    let a = c .before .before .before .before .before .args in
+    (c .before .before .before .before .before .pre .0, lane-room (now (a .text)) (a .frame) (a .mode) (a .fronts) (now (a .pieces)) (now (a .errors)) (c .before .before .before .before .before .pre .1) (c .before .before .before .before .before .pre .0 .text) (c .before .loop .inv))
 
 write-left-requires : tie.Need-write-left-requires Inv-loop μ-loop
 write-left-requires c κs =
-    let s = c .before .before .before .before .before .before .before .before .before .before .before .before in
-    let a = s .args in
-    let ran = c .before .before .before .before .before .before .lane-in .ensures in (
-      s .pre .0,
-      standing-next (now (a .text)) (a .frame) (a .mode) (a .fronts) (now (a .pieces)) (now (a .errors)) (s .pre .1)
-          (lane-underway (now (a .text)) (a .frame) (a .mode) (a .fronts) (now (a .pieces)) (now (a .errors)) (s .pre .1) (s .pre .0 .text) (c .before .before .before .before .before .before .before .before .loop .inv) ran),
-      lane-left (now (a .text)) (a .frame) (a .mode) (a .fronts) (now (a .pieces)) (now (a .errors)) (s .pre .1) (s .pre .0 .text) (c .before .before .before .before .before .before .before .before .loop .inv) ran (c .before .before .before .before .before .pieces .given),
-      ran .here,
+    let a = c .before .before .before .before .before .before .before .before .before .before .before .args in
+    let ran = c .before .before .before .before .before .lane-in .ensures in (
+      c .before .before .before .before .before .before .before .before .before .before .before .pre .0,
+      standing-next (now (a .text)) (a .frame) (a .mode) (a .fronts) (now (a .pieces)) (now (a .errors)) (c .before .before .before .before .before .before .before .before .before .before .before .pre .1)
+          (lane-underway (now (a .text)) (a .frame) (a .mode) (a .fronts) (now (a .pieces)) (now (a .errors)) (c .before .before .before .before .before .before .before .before .before .before .before .pre .1) (c .before .before .before .before .before .before .before .before .before .before .before .pre .0 .text) (c .before .before .before .before .before .before .before .loop .inv) ran),
+      lane-left (now (a .text)) (a .frame) (a .mode) (a .fronts) (now (a .pieces)) (now (a .errors)) (c .before .before .before .before .before .before .before .before .before .before .before .pre .1) (c .before .before .before .before .before .before .before .before .before .before .before .pre .0 .text) (c .before .before .before .before .before .before .before .loop .inv) ran (c .before .before .before .before .pieces .given),
     )
 
 add-given : tie.Need-add-given Inv-loop μ-loop
 add-given c =
-    let s = c .before .before .before .before .before .before .before .before .before .before .before .before .before .before .before .before .before .before .before in
-    let a = s .args in
-    let u = lane-underway (now (a .text)) (a .frame) (a .mode) (a .fronts) (now (a .pieces)) (now (a .errors)) (s .pre .1) (s .pre .0 .text) (c .before .before .before .before .before .before .before .before .before .before .before .before .before .before .before .loop .inv) (c .before .before .before .before .before .before .before .before .before .before .before .before .before .lane-in .ensures) in
-    omega (arith, back-few (now (a .text)) (a .frame) (a .mode) (a .fronts) (now (a .pieces)) (now (a .errors)) (s .pre .1) (s .pre .0 .text) u)
+    let a = c .before .before .before .before .before .before .before .before .before .before .before .before .before .before .before .before .before .before .args in
+    let u = lane-underway (now (a .text)) (a .frame) (a .mode) (a .fronts) (now (a .pieces)) (now (a .errors)) (c .before .before .before .before .before .before .before .before .before .before .before .before .before .before .before .before .before .before .pre .1) (c .before .before .before .before .before .before .before .before .before .before .before .before .before .before .before .before .before .before .pre .0 .text) (c .before .before .before .before .before .before .before .before .before .before .before .before .before .before .loop .inv) (c .before .before .before .before .before .before .before .before .before .before .before .before .lane-in .ensures) in
+    omega (arith, back-few (now (a .text)) (a .frame) (a .mode) (a .fronts) (now (a .pieces)) (now (a .errors)) (c .before .before .before .before .before .before .before .before .before .before .before .before .before .before .before .before .before .before .pre .1) (c .before .before .before .before .before .before .before .before .before .before .before .before .before .before .before .before .before .before .pre .0 .text) u)
 
 add-given-2 : tie.Need-add-given-2 Inv-loop μ-loop
 add-given-2 c =
-    let s = c .before .before .before .before .before .before .before .before .before .before .before .before .before .before .before .before .before .before .before .before in
-    let a = s .args in
-    let ran = c .before .before .before .before .before .before .before .before .before .before .before .before .before .before .lane-in .ensures in
-    let u = lane-underway (now (a .text)) (a .frame) (a .mode) (a .fronts) (now (a .pieces)) (now (a .errors)) (s .pre .1) (s .pre .0 .text) (c .before .before .before .before .before .before .before .before .before .before .before .before .before .before .before .before .loop .inv) ran in
-    omega (arith, back-few (now (a .text)) (a .frame) (a .mode) (a .fronts) (now (a .pieces)) (now (a .errors)) (s .pre .1) (s .pre .0 .text) u, c .before .before .before .before .before .before .before .write-left .ensures _ (ran .tried) .given)
+    let a = c .before .before .before .before .before .before .before .before .before .before .before .before .before .before .before .before .before .before .before .args in
+    let ran = c .before .before .before .before .before .before .before .before .before .before .before .before .before .lane-in .ensures in
+    let u = lane-underway (now (a .text)) (a .frame) (a .mode) (a .fronts) (now (a .pieces)) (now (a .errors)) (c .before .before .before .before .before .before .before .before .before .before .before .before .before .before .before .before .before .before .before .pre .1) (c .before .before .before .before .before .before .before .before .before .before .before .before .before .before .before .before .before .before .before .pre .0 .text) (c .before .before .before .before .before .before .before .before .before .before .before .before .before .before .before .loop .inv) ran in
+    omega (arith, back-few (now (a .text)) (a .frame) (a .mode) (a .fronts) (now (a .pieces)) (now (a .errors)) (c .before .before .before .before .before .before .before .before .before .before .before .before .before .before .before .before .before .before .before .pre .1) (c .before .before .before .before .before .before .before .before .before .before .before .before .before .before .before .before .before .before .before .pre .0 .text) u, c .before .before .before .before .before .before .before .write-left .ensures .given)
 
 same-length : tie.Need-same-length Inv-loop μ-loop
-same-length c = c .before .before .before .before .before .before .before .before .pieces2 .given ∙ c .before .before .before .before .before .before .before .before .before .before .before .before .before .before .before .pieces .given ∙ c .before .before .before .before .before .before .before .before .before .before .before .before .before .before .before .before .before .before .loop .inv .going .pieces .same
+same-length c = c .before .before .before .before .before .before .before .before .pieces2 .given ∙ c .before .before .before .before .before .before .before .before .before .before .before .before .before .before .pieces .given ∙ c .before .before .before .before .before .before .before .before .before .before .before .before .before .before .before .before .before .loop .inv .going .pieces .same
 
 same-length-2 : tie.Need-same-length-2 Inv-loop μ-loop
-same-length-2 c = c .before .before .before .before .before .before .errors .given ∙ c .before .before .before .before .before .before .before .before .before .before .before .before .before .before .before .before .before .before .loop .inv .going .errors .same
+same-length-2 c = c .before .before .before .before .before .before .errors .given ∙ c .before .before .before .before .before .before .before .before .before .before .before .before .before .before .before .before .before .loop .inv .going .errors .same
 
 returns : tie.Need-returns Inv-loop μ-loop
 returns c =
-    let s = c .before .before .before .before .before .before .before .before .before .before .before .before .before .before .before .before .before .before .before .before .before .before in
-    let a = s .args in
-    let ran = c .before .before .before .before .before .before .before .before .before .before .before .before .before .before .before .before .lane-in .ensures in
-    let u = lane-underway (now (a .text)) (a .frame) (a .mode) (a .fronts) (now (a .pieces)) (now (a .errors)) (s .pre .1) (s .pre .0 .text) (c .before .before .before .before .before .before .before .before .before .before .before .before .before .before .before .before .before .before .loop .inv) ran in
-    underway-over (now (a .text)) (a .frame) (a .mode) (a .fronts) (now (a .pieces)) (now (a .errors)) (s .pre .1) u (c .before .before .before .before .before .before .before .before .before .write-left .ensures _ (ran .tried)) (not-true _ (c .if1 .taken))
+    let a = c .before .before .before .before .before .before .before .before .before .before .before .before .before .before .before .before .before .before .before .before .before .args in
+    let ran = c .before .before .before .before .before .before .before .before .before .before .before .before .before .before .before .lane-in .ensures in
+    let u = lane-underway (now (a .text)) (a .frame) (a .mode) (a .fronts) (now (a .pieces)) (now (a .errors)) (c .before .before .before .before .before .before .before .before .before .before .before .before .before .before .before .before .before .before .before .before .before .pre .1) (c .before .before .before .before .before .before .before .before .before .before .before .before .before .before .before .before .before .before .before .before .before .pre .0 .text) (c .before .before .before .before .before .before .before .before .before .before .before .before .before .before .before .before .before .loop .inv) ran in
+    underway-over (now (a .text)) (a .frame) (a .mode) (a .fronts) (now (a .pieces)) (now (a .errors)) (c .before .before .before .before .before .before .before .before .before .before .before .before .before .before .before .before .before .before .before .before .before .pre .1) u (left-over (now (a .text)) (a .frame) (a .mode) _ (ran .tried) (c .before .before .before .before .before .before .before .before .before .write-left .ensures)) (not-true _ (c .if1 .taken))
 
 loop-less : tie.Need-loop-less Inv-loop μ-loop
 loop-less c =
-    let a = c .before .before .before .before .before .before .before .before .before .before .before .before .before .before .before .before .before .before .before .before .before .before .before .args in
-    let ran = c .before .before .before .before .before .before .before .before .before .before .before .before .before .before .before .before .before .lane-in .ensures in
-    run-later (now (a .text)) (a .frame) (a .mode) (ran .way) (c .before .before .before .before .before .before .before .before .before .before .write-left .ensures _ (ran .tried)) (not-false _ (c .before .if1 .left))
+    let a = c .before .before .before .before .before .before .before .before .before .before .before .before .before .before .before .before .before .before .before .before .before .before .args in
+    let ran = c .before .before .before .before .before .before .before .before .before .before .before .before .before .before .before .before .lane-in .ensures in
+    run-later (now (a .text)) (a .frame) (a .mode) (ran .way) (left-over (now (a .text)) (a .frame) (a .mode) _ (ran .tried) (c .before .before .before .before .before .before .before .before .before .before .write-left .ensures)) (not-false _ (c .before .if1 .left))
 
 loop-again : tie.Need-loop-again Inv-loop μ-loop
 loop-again c =
-    let s = c .before .before .before .before .before .before .before .before .before .before .before .before .before .before .before .before .before .before .before .before .before .before .before in
-    let a = s .args in
-    let ran = c .before .before .before .before .before .before .before .before .before .before .before .before .before .before .before .before .before .lane-in .ensures in
-    let u = lane-underway (now (a .text)) (a .frame) (a .mode) (a .fronts) (now (a .pieces)) (now (a .errors)) (s .pre .1) (s .pre .0 .text) (c .before .before .before .before .before .before .before .before .before .before .before .before .before .before .before .before .before .before .before .loop .inv) ran in
-    underway-on (now (a .text)) (a .frame) (a .mode) (a .fronts) (now (a .pieces)) (now (a .errors)) (s .pre .1) u (c .before .before .before .before .before .before .before .before .before .before .write-left .ensures _ (ran .tried)) (not-false _ (c .before .if1 .left))
+    let a = c .before .before .before .before .before .before .before .before .before .before .before .before .before .before .before .before .before .before .before .before .before .before .args in
+    let ran = c .before .before .before .before .before .before .before .before .before .before .before .before .before .before .before .before .lane-in .ensures in
+    let u = lane-underway (now (a .text)) (a .frame) (a .mode) (a .fronts) (now (a .pieces)) (now (a .errors)) (c .before .before .before .before .before .before .before .before .before .before .before .before .before .before .before .before .before .before .before .before .before .before .pre .1) (c .before .before .before .before .before .before .before .before .before .before .before .before .before .before .before .before .before .before .before .before .before .before .pre .0 .text) (c .before .before .before .before .before .before .before .before .before .before .before .before .before .before .before .before .before .before .loop .inv) ran in
+    underway-on (now (a .text)) (a .frame) (a .mode) (a .fronts) (now (a .pieces)) (now (a .errors)) (c .before .before .before .before .before .before .before .before .before .before .before .before .before .before .before .before .before .before .before .before .before .before .pre .1) u (left-over (now (a .text)) (a .frame) (a .mode) _ (ran .tried) (c .before .before .before .before .before .before .before .before .before .before .write-left .ensures)) (not-false _ (c .before .if1 .left))
 
 pub run-spec : {M : Type 1} → statement M
 run-spec =

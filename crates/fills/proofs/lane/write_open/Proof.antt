@@ -1,0 +1,81 @@
+-- `fills::lane::write_open` meets its contract: what is told is written and needs its records, and anything else is the plain step.
+use borrow.Author.Needs.{needs}
+use borrow.Author.Tests.{not-false}
+use native.Mathlib.Omega.{arith}
+use denote.Ref.{now}
+use Rattle.fills.proofs.Stopping.{left-over, one-fits, open-tried, told-here, open-told}
+use Rattle.fills.proofs.lane.write_open.Statement.{statement}
+use Rattle.fills.proofs.lane.write_open.Tie as tie
+
+write-placeholder-requires : tie.Need-write-placeholder-requires
+write-placeholder-requires c κs =
+    let p = c .before .before .before .before .pre in
+    let a = c .before .before .before .before .args in
+    (p .0, p .3, p .1, one-fits (now (a .text)) (a .frame) (a .state) (p .3) (p .4) (p .2))
+
+write-step-requires : tie.Need-write-step-requires
+write-step-requires c κs = search needs
+
+same-length : tie.Need-same-length
+same-length c = search needs
+
+same-length-2 : tie.Need-same-length-2
+same-length-2 c = search needs
+
+returns : tie.Need-returns
+returns c =
+    let p = c .before .before .before .before .before .before .before .before .before .before .before .before .before .before .before .before .pre in
+    let a = c .before .before .before .before .before .before .before .before .before .before .before .before .before .before .before .before .args in
+    let w = c .before .before .before .before .before .before .before .before .before .before .before .write-placeholder .ensures in
+    left-over (now (a .text)) (a .frame) _ (a .state) (open-tried (now (a .text)) (a .frame) (a .state) (p .3) (p .4) (p .2) (w .0) (w .1)) (c .before .before .before .before .write-step .ensures)
+
+after-told-requires : tie.Need-after-told-requires
+after-told-requires c κs = search needs
+
+put-wrongs-requires : tie.Need-put-wrongs-requires
+put-wrongs-requires c κs =
+    let p = c .before .before .before .before .before .before .before .before .before .before .before .before .pre in
+    let a = c .before .before .before .before .before .before .before .before .before .before .before .before .args in
+    let w = c .before .before .before .before .before .before .before .write-placeholder .ensures in
+    let y = not-false _ (c .before .before .before .if1 .left) in (
+      p .0,
+      omega (arith, p .0 .text, p .3),
+      omega (arith, p .0 .text, w .0 .reached y),
+      told-here (now (a .text)) (a .frame) (a .state) (p .3) (p .4) (p .2) (w .0) (w .1) y,
+    )
+
+one-more-requires : tie.Need-one-more-requires
+one-more-requires c κs =
+    let p = c .before .before .before .before .before .before .before .before .before .before .before .before .before .before .before .pre in
+    let a = c .before .before .before .before .before .before .before .before .before .before .before .before .before .before .before .args in
+    omega (arith, one-fits (now (a .text)) (a .frame) (a .state) (p .3) (p .4) (p .2), c .before .before .put-wrongs .ensures .pieces, c .before .before .before .before .before .before .before .before .before .before .before .before .before .before .before .good)
+
+same-length-3 : tie.Need-same-length-3
+same-length-3 c = search needs
+
+same-length-4 : tie.Need-same-length-4
+same-length-4 c = search needs
+
+returns-2 : tie.Need-returns-2
+returns-2 c =
+    let p = c .before .before .before .before .before .before .before .before .before .before .before .before .before .before .before .before .pre in
+    let a = c .before .before .before .before .before .before .before .before .before .before .before .before .before .before .before .before .args in
+    let w = c .before .before .before .before .before .before .before .before .before .before .before .write-placeholder .ensures in
+    let y = not-false _ (c .before .before .before .before .before .before .before .if1 .left) in
+    open-told (now (a .text)) (a .frame) (a .state) (p .3) (p .4) (p .2) (w .0) (w .1) y (c .before .before .before .before .before .after-told .ensures) (c .before .before .before .put-wrongs .ensures) (c .one-more .ensures)
+
+pub write-open-spec : {M : Type 1} → statement M
+write-open-spec =
+    tie.close
+    (tie.spec
+    write-placeholder-requires
+    write-step-requires
+    same-length
+    same-length-2
+    returns
+    after-told-requires
+    put-wrongs-requires
+    one-more-requires
+    same-length-3
+    same-length-4
+    returns-2)

@@ -1,0 +1,2 @@
+-- Laws that the proofs of `flawless` share.
+pub mod Closing

@@ -1,0 +1,2 @@
+-- How a placeholder ends in which nothing is wrong.
+pub mod Closed
