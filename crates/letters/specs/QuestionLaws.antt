@@ -1,16 +1,17 @@
 -- The three questions compared, with one another and at the marks and digits of a placeholder: each fact by one computed test
 -- over the tables. Rests on Questions and TableLaws.
-use Prim.Native.Nat.{ℕ}
+use Prim.Native.Nat.{ℕ, _≤_, _<_}
 use mathlib.Core.Path.{_≡_, refl, sym, _∙_, ap}
 use mathlib.Core.Bool.{Bool, true, false, not, true≢false}
 use mathlib.Core.List.{List, [], _∷_}
-use lib.Dec.{T, eqb}
-use borrow.Author.Tests.{eqb-true}
+use lib.Dec.{T, eqb, ltb}
+use native.Mathlib.Omega.{arith}
+use borrow.Author.Tests.{eqb-true, ltb-true, ltb-false}
 use Rattle.utf8.specs.Choice.{pick, both, either, within}
 use Rattle.utf8.specs.ChoiceLaws.{not-so, within-low, within-high}
 use Rattle.letters.specs.Table.{member, ascending}
 use Rattle.letters.specs.Compared.{clear, apart, held, inside}
-use Rattle.letters.specs.TableLaws.{first-holds, inside-holds, apart-holds, left-of, right-of}
+use Rattle.letters.specs.TableLaws.{loAt, hiAt, pairs, found, first-holds, inside-holds, apart-holds, left-of, right-of}
 use Rattle.letters.specs.Space.{space}
 use Rattle.letters.specs.Start.{start}
 use Rattle.letters.specs.Continue.{continue}
@@ -56,6 +57,23 @@ start-continues c m = inside-holds start continue start-in-continue c m
 pub common-starts : (c : ℕ) → member common c ≡ true → isStart c ≡ true
 unfolding isStart
 common-starts c m = inside-holds common start common-in-start c m
+
+-- so is one of its ranges of Latin letters and Han characters
+pub latin-starts : (c : ℕ) → 0xC0 ≤ c → c < 0xF8 → (c ≡ 0xD7 → ⊥) → (c ≡ 0xF7 → ⊥) → isStart c ≡ true
+unfolding common pairs loAt hiAt
+latin-starts c l u m n = go (ltb c 0xD7) refl
+  where
+    go : (x : Bool) → ltb c 0xD7 ≡ x → isStart c ≡ true
+    go true e = common-starts c (found common c 0 (omega arith) l (omega (arith, ltb-true c 0xD7 e)))
+    go false e = common-starts c (found common c 1 (omega arith) (omega (arith, ltb-false c 0xD7 e, m)) (omega (arith, n)))
+
+pub further-starts : (c : ℕ) → 0xF8 ≤ c → c ≤ 0x2C1 → isStart c ≡ true
+unfolding common pairs loAt hiAt
+further-starts c l u = common-starts c (found common c 2 (omega arith) l u)
+
+pub han-starts : (c : ℕ) → 0x4E00 ≤ c → c ≤ 0xA48C → isStart c ≡ true
+unfolding common pairs loAt hiAt
+han-starts c l u = common-starts c (found common c 14 (omega arith) l u)
 
 -- no continuation is whitespace
 pub continue-no-space : (c : ℕ) → isContinue c ≡ true → isSpace c ≡ false

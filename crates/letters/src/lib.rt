@@ -5,7 +5,7 @@ use crate::tables::SPACE;
 use crate::tables::START;
 use utf8::Seen;
 ghost use mathlib.Core.Path.{_≡_};
-ghost use mathlib.Core.Bool.{false};
+ghost use mathlib.Core.Bool.{true, false};
 ghost use Prim.Native.Nat.{_<_};
 ghost use lib.Dec.{T};
 ghost use lib.ListN.{length, getD};
@@ -25,7 +25,7 @@ pub fn is_space(c: u32) -> bool
     if c < 0x80 {
         return ascii_space(c as u8);
     }
-    in_table(&SPACE, c)
+    in_space(c)
 }
 
 // Whether a character can start an identifier: `_` or XID_Start. ASCII and the common scripts are answered without the long table.
@@ -35,7 +35,10 @@ pub fn is_start(c: u32) -> bool
     if c < 0x80 {
         return ascii_start(c as u8);
     }
-    if in_table(&COMMON, c) {
+    if is_frequent(c) {
+        return true;
+    }
+    if in_common(c) {
         return true;
     }
     in_start(c)
@@ -48,7 +51,10 @@ pub fn is_continue(c: u32) -> bool
     if c < 0x80 {
         return ascii_continue(c as u8);
     }
-    if in_table(&COMMON, c) {
+    if is_frequent(c) {
+        return true;
+    }
+    if in_common(c) {
         return true;
     }
     in_continue(c)
@@ -99,7 +105,41 @@ fn ascii_continue(b: u8) -> bool
     ascii_start(b)
 }
 
-// The long tables stand in functions of their own: a function that names a constant array stores it anew in each call.
+// Whether a character is in the ranges that names mostly have beyond ASCII, Latin letters and Han characters, which no table is stored for.
+fn is_frequent(c: u32) -> bool
+    ensures { λ r. ⌜ (r ≡ true → isStart c ≡ true) ⌝ }
+{
+    if 0xF8 <= c {
+        if c <= 0x2C1 {
+            return true;
+        }
+        if c < 0x4E00 {
+            return false;
+        }
+        return c <= 0xA48C;
+    }
+    if c < 0xC0 {
+        return false;
+    }
+    if c == 0xD7 {
+        return false;
+    }
+    c != 0xF7
+}
+
+// The tables stand in functions of their own: a function that names a constant array stores it anew in each call.
+fn in_space(c: u32) -> bool
+    ensures { λ r. ⌜ r ≡ isSpace c ⌝ }
+{
+    in_table(&SPACE, c)
+}
+
+fn in_common(c: u32) -> bool
+    ensures { λ r. ⌜ (r ≡ true → isStart c ≡ true) ⌝ }
+{
+    in_table(&COMMON, c)
+}
+
 fn in_start(c: u32) -> bool
     ensures { λ r. ⌜ r ≡ isStart c ⌝ }
 {

@@ -1,10 +1,6 @@
--- `letters::is_space` meets its contract: below 0x80 the byte tells; else the table is asked, and the constant holds the
--- definition's numbers, which are ascending. Assumes nothing.
+-- `letters::is_space` meets its contract: below 0x80 the byte tells; else the table is asked. Assumes nothing.
 use borrow.Author.Needs.{needs}
 use mathlib.Core.Path.{sym, _∙_}
-use Rattle.letters.specs.Space.{space}
-use Rattle.letters.specs.Questions.{isSpace}
-use Rattle.letters.specs.QuestionLaws.{space-ascending}
 use Rattle.letters.specs.AsciiLaws.{ascii-space}
 use Rattle.letters.proofs.is_space.Statement.{statement}
 use Rattle.letters.proofs.is_space.Tie as tie
@@ -18,24 +14,11 @@ ascii-space-requires c κs = search needs
 returns : tie.Need-returns
 returns c = c .ascii-space .ensures ∙ sym (ascii-space _ (c .before .if1 .taken))
 
-slice-aggregate-in-table : tie.Need-slice-aggregate-in-table
-slice-aggregate-in-table c = search needs
-
-in-table-requires : tie.Need-in-table-requires
-unfolding space
-in-table-requires c κs = space-ascending
+in-space-requires : tie.Need-in-space-requires
+in-space-requires c κs = search needs
 
 returns-2 : tie.Need-returns-2
-unfolding isSpace space
-returns-2 c = c .in-table .ensures
+returns-2 c = c .in-space .ensures
 
 pub is-space-spec : {M : Type 1} → statement M
-is-space-spec =
-    tie.close
-    (tie.spec
-    cast-ascii-space
-    ascii-space-requires
-    returns
-    slice-aggregate-in-table
-    in-table-requires
-    returns-2)
+is-space-spec = tie.close (tie.spec cast-ascii-space ascii-space-requires returns in-space-requires returns-2)
