@@ -2,7 +2,7 @@
 -- Rests on `utf8`'s decoding and runs, and `letters`' White_Space.
 use Prim.Native.Nat.{ℕ, _+_}
 use Prim.Native.Char.{code}
-use mathlib.Core.Bool.{Bool, true, false, not}
+use mathlib.Core.Bool.{Bool, true, false}
 use mathlib.Core.List.{List}
 use lib.Dec.{eqb}
 use Rattle.utf8.specs.Choice.{pick}
@@ -44,10 +44,6 @@ spacesPast t at = place (runEnd isSpace t (at .0))
 -- a character that is no brace (R3.8)
 unfoldable pub isPlain : ℕ → Bool
 isPlain c = pick (eqb c (code "{")) false (pick (eqb c (code "}")) false true)
-
--- a brace
-abbrev pub isBrace : ℕ → Bool
-isBrace c = not (isPlain c)
 
 -- "Each run goes to the next brace or the end." (R4.2, R5.1)
 unfoldable pub textEnd : List ℕ → TextPlace → TextPlace

@@ -6,13 +6,14 @@ use frame::TextPlace;
 use frame::TextRange;
 use utf8::Seen;
 ghost use mathlib.Core.Path.{_≡_};
+ghost use mathlib.Core.Bool.{true};
 ghost use Prim.Native.Nat.{ℕ, _+_, _*_, _≤_, _<_};
 ghost use lib.ListN.{length};
 ghost use Rattle.frame.specs.Bounds.{Small};
 ghost use Rattle.utf8.specs.Choice.{either};
 ghost use Rattle.utf8.specs.Chars.{runEnd};
 ghost use Rattle.utf8.specs.Blocks.{one, howMany};
-ghost use Rattle.scan.specs.Characters.{isAt, pastAt, consumed, spacesPast, isPlain, isBrace, textEnd};
+ghost use Rattle.scan.specs.Characters.{isAt, pastAt, consumed, spacesPast, isPlain, textEnd};
 ghost use Rattle.scan.specs.Ends.{endOf, spanAcross};
 ghost use Rattle.scan.specs.Words.{isDigit, wordEnd, wordRead, numberFrom, numberRead};
 ghost use Rattle.scan.specs.Wrapping.{noted, told};
@@ -148,17 +149,17 @@ pub fn string_end(text: &[u8], at: TextPlace) -> TextPlace
     TextPlace(brace_before(text, from, text.len() + 1))
 }
 
-// The place after the blocks of sixteen bytes without a brace at `at`. A block is one test.
+// The place after the blocks of 32 bytes without a brace at `at`. A block is one test.
 fn plain_blocks(text: &[u8], at: usize) -> usize
     requires { ⌜ at ≤ length (now text) ⌝ }
     ensures { λ r. ⌜ (runEnd isPlain (now (text .entry)) r ≡ runEnd isPlain (now (text .entry)) at) × (r ≤ length (now (text .entry))) ⌝ }
 {
     let mut i = at;
-    while i + 16 <= text.len() {
-        if braces(text, i) + braces(text, i + 8) != 0 {
+    while i + 32 <= text.len() {
+        if !is_plain(text, i) {
             return i;
         }
-        i += 16;
+        i += 32;
     }
     i
 }
@@ -174,7 +175,7 @@ fn brace_before(text: &[u8], at: usize, limit: usize) -> usize
         if text.len() <= i {
             return i;
         }
-        if brace(text[i]) != 0 {
+        if plain(text[i]) == 0 {
             return i;
         }
         i += 1;
@@ -182,32 +183,40 @@ fn brace_before(text: &[u8], at: usize, limit: usize) -> usize
     i
 }
 
-// How many of the eight bytes at `at` are braces.
-fn braces(text: &[u8], at: usize) -> u8
-    requires { ⌜ at + 8 ≤ length (now text) ⌝ }
-    ensures { λ r. ⌜ (r ≡ howMany isBrace (now (text .entry)) at 8) × (r ≤ 8) ⌝ }
+// Whether the 32 bytes at `at` have no brace. The others are counted, and the count compared with 32: that becomes one test of vectors.
+fn is_plain(text: &[u8], at: usize) -> bool
+    requires { ⌜ at + 32 ≤ length (now text) ⌝ }
+    ensures { λ r. ⌜ (r ≡ true → howMany isPlain (now (text .entry)) at 32 ≡ 32) ⌝ }
 {
-    brace(text[at])
-        + brace(text[at + 1])
-        + brace(text[at + 2])
-        + brace(text[at + 3])
-        + brace(text[at + 4])
-        + brace(text[at + 5])
-        + brace(text[at + 6])
-        + brace(text[at + 7])
+    plains(text, at) + plains(text, at + 8) + plains(text, at + 16) + plains(text, at + 24) == 32
 }
 
-// 1 for a brace, else 0: a number, so that eight of them are summed at once.
-fn brace(b: u8) -> u8
-    ensures { λ r. ⌜ (r ≡ one (isBrace b)) × (r ≤ 1) ⌝ }
+// How many of the eight bytes at `at` are no braces.
+fn plains(text: &[u8], at: usize) -> u8
+    requires { ⌜ at + 8 ≤ length (now text) ⌝ }
+    ensures { λ r. ⌜ (r ≡ howMany isPlain (now (text .entry)) at 8) × (r ≤ 8) ⌝ }
+{
+    plain(text[at])
+        + plain(text[at + 1])
+        + plain(text[at + 2])
+        + plain(text[at + 3])
+        + plain(text[at + 4])
+        + plain(text[at + 5])
+        + plain(text[at + 6])
+        + plain(text[at + 7])
+}
+
+// 0 for a brace, else 1: a number, so that many of them are summed at once.
+fn plain(b: u8) -> u8
+    ensures { λ r. ⌜ (r ≡ one (isPlain b)) × (r ≤ 1) ⌝ }
 {
     if b == 0x7B {
-        return 1;
+        return 0;
     }
     if b == 0x7D {
-        return 1;
+        return 0;
     }
-    0
+    1
 }
 
 // The snippet place where the character at a text place ends.

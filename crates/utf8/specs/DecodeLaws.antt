@@ -7,12 +7,12 @@ use native.Mathlib.Omega.{arith}
 use mathlib.Core.Path.{_≡_, refl, sym, _∙_, ap, subst}
 use mathlib.Core.Bool.{Bool, true, false}
 use lib.Dec.{eqb, lit≤}
-use lib.ListN.{length, getD, drop}
+use lib.ListN.{length, getD, drop, length-drop}
 use lib.Seq.{drop-cons, getD-drop}
 use borrow.Author.Tests.{lt-ltb, ltb-false, eqb-true, eqb-false}
 use Rattle.utf8.specs.Choice.{pick, within}
 use Rattle.utf8.specs.ChoiceLaws.{pick-elim, within-low}
-use Rattle.utf8.specs.Utf8.{low, high, seq, code3, code4, sequenceOf, sequenceAt, charOf, decode}
+use Rattle.utf8.specs.Utf8.{low, high, seq, code2, code3, code4, sequenceOf, sequenceAt, charOf, decode}
 use Rattle.utf8.specs.declared.Sequence.{Sequence}
 use Rattle.utf8.specs.declared.Seen.{Seen}
 use Rattle.utf8.specs.declared.Seen.the-variants.{Char}
@@ -69,6 +69,36 @@ wide b c d e =
     (λ t. omega arith)))
     (λ t. omega arith)))
 
+-- the code that the first bytes spell, as many as a width says
+abbrev pub codeOf : ℕ → ℕ → ℕ → ℕ → ℕ → ℕ
+codeOf b c d e zero = 0
+codeOf b c d e (suc zero) = b
+codeOf b c d e (suc (suc zero)) = code2 b c
+codeOf b c d e (suc (suc (suc zero))) = code3 b c d
+codeOf b c d e (suc (suc (suc (suc w)))) = code4 b c d e
+
+-- what the width of a sequence says of its first byte and of its code
+pub record Spells (b c d e : ℕ) (s : Sequence) : Type 0 where
+  pub from2 : 2 ≤ s .width → 0xC0 ≤ b
+  pub from3 : 3 ≤ s .width → 0xE0 ≤ b
+  pub from4 : 4 ≤ s .width → 0xF0 ≤ b
+  pub code : s .code ≡ codeOf b c d e (s .width)
+
+spells : (b c d e : ℕ) → Spells b c d e (sequenceOf b c d e)
+unfolding sequenceOf
+spells b c d e =
+    let P : Sequence → Type 0 = λ s. Spells b c d e s in
+    pick-elim P _ (λ t. omega arith) (λ t.
+    pick-elim P _ (λ t. omega arith) (λ t. let h = ltb-false b 0xC2 t in
+    pick-elim P _ (λ t.
+    pick-elim P _ (λ t. omega arith) (λ t. let k = ltb-false b 0xE0 t in
+    pick-elim P _ (λ t.
+    pick-elim P _ (λ t. omega arith) (λ t. let l = ltb-false b 0xF0 t in
+    pick-elim P _ (λ t. pick-elim P _ (λ t. omega arith) (λ t. omega arith))
+    (λ t. omega arith)))
+    (λ t. omega arith)))
+    (λ t. omega arith)))
+
 -- a byte that is not 0 stands in the list
 getD-in : (r : List ℕ) (i : ℕ) → 1 ≤ getD r i 0 → i < length r
 getD-in [] i h = omega arith
@@ -109,6 +139,36 @@ pub sequence-room : (s : List ℕ) → sequenceAt s .width ≤ length s
 unfolding sequenceAt
 sequence-room [] = omega arith
 sequence-room (b ∷ r) = room b r _ (wide b _ _ _)
+
+-- where there is none, no code
+pub no-code : (s : List ℕ) → sequenceAt s .width ≡ 0 → sequenceAt s .code ≡ 0
+unfolding sequenceAt
+no-code [] e = refl
+no-code (b ∷ r) e = spells b _ _ _ .code ∙ ap (codeOf b _ _ _) e
+
+-- A SEQUENCE OF A WIDTH: its bytes stand in the text, and they spell its code
+pub record Spelled (t : List ℕ) (i w : ℕ) : Type 0 where
+  pub room : i + w ≤ length t
+  pub from2 : 2 ≤ w → 0xC0 ≤ getD t i 0
+  pub from3 : 3 ≤ w → 0xE0 ≤ getD t i 0
+  pub from4 : 4 ≤ w → 0xF0 ≤ getD t i 0
+  pub others : Wide (getD t (i + 1) 0) (getD t (i + 2) 0) (getD t (i + 3) 0) w
+  pub code : (k : ℕ) → w ≡ k → sequenceAt (drop i t) .code ≡ codeOf (getD t i 0) (getD t (i + 1) 0) (getD t (i + 2) 0) (getD t (i + 3) 0) k
+
+pub spelled : (t : List ℕ) (i w : ℕ) → w ≡ sequenceAt (drop i t) .width → (w ≡ 0 → ⊥) → Spelled t i w
+spelled t i w q n =
+    let h : i + w ≤ length t = omega (arith, sequence-room (drop i t), length-drop i t, n) in
+    let e = sequence-bytes t i (omega (arith, h, n)) in
+    let v = q ∙ ap (λ (s : Sequence). s .width) e in
+    let p = spells (getD t i 0) (getD t (i + 1) 0) (getD t (i + 2) 0) (getD t (i + 3) 0) in
+    record {
+      room = h;
+      from2 = rw v (p .from2);
+      from3 = rw v (p .from3);
+      from4 = rw v (p .from4);
+      others = rw v (wide (getD t i 0) _ _ _);
+      code = λ k m. ap (λ (s : Sequence). s .code) e ∙ p .code ∙ ap (codeOf _ _ _ _) (sym v ∙ m);
+    }
 
 -- by the least second byte, three and four bytes spell no code below 0x80
 three-high : (b c d : ℕ) → 0xE0 ≤ b → low b ≤ c → 0x80 ≤ code3 b c d

@@ -70,11 +70,11 @@ pub valid-room : (t : List ℕ) (i w : ℕ) → sequenceAt (drop i t) .width ≡
 valid-room t i w e n = let h = sequence-room (drop i t) in omega (arith, e, n, simp length-drop at h)
 
 -- the range of the second byte, by the row
-low-other : (b : ℕ) → (b ≡ 0xE0 → ⊥) → (b ≡ 0xF0 → ⊥) → low b ≡ 0x80
+pub low-other : (b : ℕ) → (b ≡ 0xE0 → ⊥) → (b ≡ 0xF0 → ⊥) → low b ≡ 0x80
 unfolding low pick
 low-other b m n = simp (ne-eqb b 0xE0 m, ne-eqb b 0xF0 n)
 
-high-other : (b : ℕ) → (b ≡ 0xED → ⊥) → (b ≡ 0xF4 → ⊥) → high b ≡ 0xBF
+pub high-other : (b : ℕ) → (b ≡ 0xED → ⊥) → (b ≡ 0xF4 → ⊥) → high b ≡ 0xBF
 unfolding high pick
 high-other b m n = simp (ne-eqb b 0xED m, ne-eqb b 0xF4 n)
 

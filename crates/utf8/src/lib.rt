@@ -1,14 +1,15 @@
 // UTF-8 at any place of any bytes: the character there, the check of a text, which goes on from where it stood, and how many characters stand between two places.
 ghost use mathlib.Core.Path.{_≡_};
 ghost use mathlib.Core.Logic.{_⊎_};
-ghost use Prim.Native.Nat.{_+_, _-_, _≤_, _<_};
+ghost use mathlib.Core.Bool.{true};
+ghost use Prim.Native.Nat.{ℕ, _+_, _≤_, _<_};
 ghost use lib.ListN.{length, getD, drop};
 ghost use Rattle.utf8.specs.Choice.{within};
 ghost use Rattle.utf8.specs.Utf8.{low, high, code2, code3, code4, sequenceOf, sequenceAt, charOf, peekAt, validPrefix};
 ghost use Rattle.utf8.specs.Utf8Laws.{validEnd};
 ghost use Rattle.utf8.specs.Chars.{charsOf};
 ghost use Rattle.utf8.specs.CountLaws.{Passed};
-ghost use Rattle.utf8.specs.Blocks.{one, howMany, isHigh};
+ghost use Rattle.utf8.specs.Blocks.{one, howMany, isHigh, isLow, AsciiTo};
 
 // What stands at a place of a text: a character with its width in bytes, or nothing, past the end.
 pub enum Seen {
@@ -75,8 +76,7 @@ pub fn check_from(text: &[u8], at: usize) -> Checked
     let mut later = 0;
     loop {
         let j = ascii_end(text, i, n);
-        let s = sequence_at(text, j);
-        let w = s.width;
+        let w = sequence_width(text, j);
         if w == 0 {
             return Checked {
                 valid: j,
@@ -129,61 +129,179 @@ fn least(x: usize, y: usize) -> usize
     if x < y { x } else { y }
 }
 
-// The place after the blocks of sixteen ASCII bytes at `at` that end by `stop`. A block is one test, so a text of plain letters is passed at its speed.
+// The place after the ASCII bytes at `at` that stand before `stop`, by blocks where there are many.
 fn ascii_end(text: &[u8], at: usize, stop: usize) -> usize
     requires { ⌜ (at ≤ length (now text)) × (stop ≤ length (now text)) ⌝ }
-    ensures { λ r. ⌜ (at ≤ r) × (r ≤ length (now (text .entry))) × ((r ≡ at) ⊎ (r ≤ stop)) × (howMany isHigh (now (text .entry)) at (r - at) ≡ 0) ⌝ }
+    ensures { λ r. ⌜ AsciiTo (now (text .entry)) at stop r ⌝ }
 {
+    let i = ascii_blocks(text, at, stop);
+    ascii_bytes(text, i, stop)
+}
+
+// The place after the blocks of ASCII at `at`. The last block before `stop` may begin among bytes that were passed: so few bytes are looked at one by one.
+fn ascii_blocks(text: &[u8], at: usize, stop: usize) -> usize
+    requires { ⌜ (at ≤ length (now text)) × (stop ≤ length (now text)) ⌝ }
+    ensures { λ r. ⌜ AsciiTo (now (text .entry)) at stop r ⌝ }
+{
+    // In a run of letters that are not ASCII no block is tried.
+    if 0x80 <= byte(text, at) {
+        return at;
+    }
     let mut i = at;
-    while i + 16 <= stop {
-        if highs(text, i) + highs(text, i + 8) != 0 {
+    while i + 32 <= stop {
+        if !is_ascii(text, i) {
             return i;
         }
-        i += 16;
+        i += 32;
+    }
+    if i < stop {
+        if 32 <= stop {
+            if is_ascii(text, stop - 32) {
+                return stop;
+            }
+        }
     }
     i
 }
 
-// How many of the eight bytes at `at` are 80 (hex) or above.
-fn highs(text: &[u8], at: usize) -> u8
-    requires { ⌜ at + 8 ≤ length (now text) ⌝ }
-    ensures { λ r. ⌜ (r ≡ howMany isHigh (now (text .entry)) at 8) × (r ≤ 8) ⌝ }
+// The place of the first byte from `at` on that is no ASCII, or `stop`, whichever comes first.
+fn ascii_bytes(text: &[u8], at: usize, stop: usize) -> usize
+    requires { ⌜ (at ≤ length (now text)) × (stop ≤ length (now text)) ⌝ }
+    ensures { λ r. ⌜ AsciiTo (now (text .entry)) at stop r ⌝ }
 {
-    high(text[at])
-        + high(text[at + 1])
-        + high(text[at + 2])
-        + high(text[at + 3])
-        + high(text[at + 4])
-        + high(text[at + 5])
-        + high(text[at + 6])
-        + high(text[at + 7])
+    let mut i = at;
+    while i < stop {
+        if 0x80 <= text[i] {
+            return i;
+        }
+        i += 1;
+    }
+    i
 }
 
-// 1 for a byte that is 80 (hex) or above, else 0: no test, so that eight of them are computed at once.
-fn high(b: u8) -> u8
-    ensures { λ r. ⌜ (r ≡ one (isHigh b)) × (r ≤ 1) ⌝ }
+// Whether the 32 bytes at `at` are ASCII. All of them are counted, and the count compared with 32: that becomes one test of a vector's signs.
+fn is_ascii(text: &[u8], at: usize) -> bool
+    requires { ⌜ at + 32 ≤ length (now text) ⌝ }
+    ensures { λ r. ⌜ (r ≡ true → howMany isHigh (now (text .entry)) at 32 ≡ 0) ⌝ }
 {
-    b / 128
+    lows(text, at) + lows(text, at + 8) + lows(text, at + 16) + lows(text, at + 24) == 32
+}
+
+// How many of the eight bytes at `at` are ASCII.
+fn lows(text: &[u8], at: usize) -> u8
+    requires { ⌜ at + 8 ≤ length (now text) ⌝ }
+    ensures { λ r. ⌜ (r ≡ howMany isLow (now (text .entry)) at 8) × (r ≤ 8) ⌝ }
+{
+    low(text[at])
+        + low(text[at + 1])
+        + low(text[at + 2])
+        + low(text[at + 3])
+        + low(text[at + 4])
+        + low(text[at + 5])
+        + low(text[at + 6])
+        + low(text[at + 7])
+}
+
+// 1 for an ASCII byte, else 0: a number, so that many of them are summed at once.
+fn low(b: u8) -> u8
+    ensures { λ r. ⌜ (r ≡ one (isLow b)) × (r ≤ 1) ⌝ }
+{
+    if b < 0x80 { 1 } else { 0 }
 }
 
 // The well-formed sequence at `at`; width 0: none.
 fn sequence_at(text: &[u8], at: usize) -> Sequence
     ensures { λ r. ⌜ r ≡ sequenceAt (drop at (now (text .entry))) ⌝ }
 {
+    let width = sequence_width(text, at);
+    Sequence {
+        code: code_at(text, at, width),
+        width,
+    }
+}
+
+// The width of the well-formed sequence at `at`, by table 3-7 of the Unicode Standard; 0: none. A byte is read only where one before it asks for it.
+fn sequence_width(text: &[u8], at: usize) -> usize
+    ensures { λ r. ⌜ r ≡ sequenceAt (drop at (now (text .entry))) .width ⌝ }
+{
     if text.len() <= at {
-        return Sequence { code: 0, width: 0 };
+        return 0;
     }
     let b = text[at];
     if b < 0x80 {
-        return Sequence {
-            code: wide(b),
-            width: 1,
-        };
+        return 1;
     }
     let c = byte(text, at + 1);
+    if b < 0xE0 {
+        return width_two(b, c);
+    }
     let d = byte(text, at + 2);
-    let e = byte(text, at + 3);
-    sequence_of(b, c, d, e)
+    if b < 0xF0 {
+        return width_three(b, c, d);
+    }
+    width_four(b, c, d, byte(text, at + 3))
+}
+
+// 2 where the bytes are a sequence of two, else 0.
+fn width_two(b: u8, c: u8) -> usize
+    requires { ⌜ (0x80 ≤ b) × (b < 0xE0) ⌝ }
+    ensures { λ r. ⌜ ((d e : ℕ) → r ≡ sequenceOf b c d e .width) ⌝ }
+{
+    if b < 0xC2 {
+        return 0;
+    }
+    if later(c) { 2 } else { 0 }
+}
+
+// 3 where the bytes are a sequence of three, else 0.
+fn width_three(b: u8, c: u8, d: u8) -> usize
+    requires { ⌜ (0xE0 ≤ b) × (b < 0xF0) ⌝ }
+    ensures { λ r. ⌜ ((e : ℕ) → r ≡ sequenceOf b c d e .width) ⌝ }
+{
+    if !second(b, c) {
+        return 0;
+    }
+    if later(d) { 3 } else { 0 }
+}
+
+// 4 where the bytes are a sequence of four, else 0.
+fn width_four(b: u8, c: u8, d: u8, e: u8) -> usize
+    requires { ⌜ 0xF0 ≤ b ⌝ }
+    ensures { λ r. ⌜ r ≡ sequenceOf b c d e .width ⌝ }
+{
+    if !second(b, c) {
+        return 0;
+    }
+    if !later(d) {
+        return 0;
+    }
+    if !later(e) {
+        return 0;
+    }
+    if b < 0xF5 { 4 } else { 0 }
+}
+
+// The code of the sequence at `at`, whose width is given.
+fn code_at(text: &[u8], at: usize, width: usize) -> u32
+    requires { ⌜ width ≡ sequenceAt (drop at (now text)) .width ⌝ }
+    ensures { λ r. ⌜ r ≡ sequenceAt (drop at (now (text .entry))) .code ⌝ }
+{
+    if width == 0 {
+        return 0;
+    }
+    let b = text[at];
+    if width == 1 {
+        return wide(b);
+    }
+    let c = text[at + 1];
+    if width == 2 {
+        return two(b, c);
+    }
+    let d = text[at + 2];
+    if width == 3 {
+        return three(b, c, d);
+    }
+    four(b, c, d, text[at + 3])
 }
 
 // A sequence as a character: U+FFFD, one byte wide, where there is none.
@@ -201,50 +319,6 @@ fn char_of(s: Sequence) -> Seen
         code: s.code,
         width: w,
     }
-}
-
-// The well-formed sequence that four bytes begin with, by table 3-7 of the Unicode Standard; width 0: none.
-fn sequence_of(b: u8, c: u8, d: u8, e: u8) -> Sequence
-    ensures { λ r. ⌜ r ≡ sequenceOf b c d e ⌝ }
-{
-    let none = Sequence { code: 0, width: 0 };
-    if b < 0x80 {
-        return Sequence {
-            code: wide(b),
-            width: 1,
-        };
-    }
-    if b < 0xC2 {
-        return none;
-    }
-    if !second(b, c) {
-        return none;
-    }
-    if b < 0xE0 {
-        return Sequence {
-            code: two(b, c),
-            width: 2,
-        };
-    }
-    if !later(d) {
-        return none;
-    }
-    if b < 0xF0 {
-        return Sequence {
-            code: three(b, c, d),
-            width: 3,
-        };
-    }
-    if !later(e) {
-        return none;
-    }
-    if b < 0xF5 {
-        return Sequence {
-            code: four(b, c, d, e),
-            width: 4,
-        };
-    }
-    none
 }
 
 // Whether `c` can stand second after `b`.

@@ -5,7 +5,6 @@ use borrow.Author.Needs.{needs}
 use Prim.Native.Nat.{_-_, _≤_}
 use mathlib.Core.Path.{_≡_, refl, sym, _∙_}
 use native.Mathlib.Omega.{arith}
-use borrow.Author.Tests.{not-true, not-false}
 use lib.ListN.{length}
 use denote.Ref.{now}
 use Rattle.utf8.specs.Chars.{runEnd}
@@ -31,16 +30,16 @@ returns c =
     let end = sym (run-end isPlain _ _ (past-end (now (l .before .before .before .args .text)) _ (c .if1 .taken))) in
     (l .before .loop .inv, λ _. end ∙ l .before .loop .inv .0)
 
-shared-slice-read-brace : tie.Need-shared-slice-read-brace Inv-loop μ-loop
-shared-slice-read-brace c = omega arith
+shared-slice-read-plain : tie.Need-shared-slice-read-plain Inv-loop μ-loop
+shared-slice-read-plain c = omega arith
 
-brace-requires : tie.Need-brace-requires Inv-loop μ-loop
-brace-requires c κs = search needs
+plain-requires : tie.Need-plain-requires Inv-loop μ-loop
+plain-requires c κs = search needs
 
 returns-2 : tie.Need-returns-2 Inv-loop μ-loop
 returns-2 c =
     let l = c .before .before .before .before in
-    let n = not-true _ (one-some _ (λ z. c .if2 .taken (c .before .brace .ensures .0 ∙ z))) in
+    let n = one-none _ (sym (c .before .plain .ensures .0) ∙ c .if2 .taken) in
     let stop = sym (byte-stop isPlain plain-high (now (l .before .before .before .args .text)) _ (omega arith) n) in
     (l .before .loop .inv, λ _. stop ∙ l .before .loop .inv .0)
 
@@ -53,7 +52,7 @@ loop-less c = omega arith
 loop-again : tie.Need-loop-again Inv-loop μ-loop
 loop-again c =
     let l = c .before .before .before .before in
-    let y = not-false _ (one-none _ (sym (c .before .brace .ensures .0) ∙ c .if2 .left)) in
+    let y = one-some _ (λ z. c .if2 .left (c .before .plain .ensures .0 ∙ z)) in
     (byte-more isPlain plain-high (now (l .before .before .before .args .text)) _ (omega arith) y ∙ l .before .loop .inv .0, omega arith)
 
 returns-3 : tie.Need-returns-3 Inv-loop μ-loop
@@ -67,8 +66,8 @@ brace-before-spec =
     μ-loop
     loop-holds
     returns
-    shared-slice-read-brace
-    brace-requires
+    shared-slice-read-plain
+    plain-requires
     returns-2
     add-i
     loop-less

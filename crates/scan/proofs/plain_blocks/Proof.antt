@@ -3,11 +3,12 @@
 use Prim.Native.Nat.{_-_, _≤_}
 use mathlib.Core.Path.{_≡_, refl, _∙_}
 use native.Mathlib.Omega.{arith}
+use borrow.Author.Tests.{not-false}
 use lib.ListN.{length}
 use denote.Ref.{now}
 use Rattle.utf8.specs.Chars.{runEnd}
-use Rattle.utf8.specs.BlockLaws.{how-many-add, run-block}
-use Rattle.scan.specs.Characters.{isPlain, isBrace}
+use Rattle.utf8.specs.BlockLaws.{run-block}
+use Rattle.scan.specs.Characters.{isPlain}
 use Rattle.scan.specs.ScanLaws.{plain-high}
 use Rattle.scan.proofs.plain_blocks.Statement.{statement}
 use Rattle.scan.proofs.plain_blocks.Tie as tie
@@ -24,20 +25,11 @@ loop-holds c = (omega arith, refl)
 add-loop : tie.Need-add-loop Inv-loop μ-loop
 add-loop c = omega arith
 
-braces-requires : tie.Need-braces-requires Inv-loop μ-loop
-braces-requires c κs = omega arith
-
-add-braces : tie.Need-add-braces Inv-loop μ-loop
-add-braces c = omega arith
-
-braces-requires-2 : tie.Need-braces-requires-2 Inv-loop μ-loop
-braces-requires-2 c κs = omega arith
-
-add-if1 : tie.Need-add-if1 Inv-loop μ-loop
-add-if1 c = omega arith
+is-plain-requires : tie.Need-is-plain-requires Inv-loop μ-loop
+is-plain-requires c κs = omega arith
 
 returns : tie.Need-returns Inv-loop μ-loop
-returns c = (c .before .before .before .before .loop .inv .1, c .before .before .before .before .loop .inv .0)
+returns c = (c .before .before .before .loop .inv .1, c .before .before .before .loop .inv .0)
 
 add-i : tie.Need-add-i Inv-loop μ-loop
 add-i c = omega arith
@@ -47,10 +39,10 @@ loop-less c = omega arith
 
 loop-again : tie.Need-loop-again Inv-loop μ-loop
 loop-again c =
-    let l = c .before .before .before .before in
+    let l = c .before .before .before in
     let t = now (l .before .before .args .text) in
     let i = l .loop .i in
-    (omega arith, run-block isPlain plain-high t i 16 (omega arith) (how-many-add isBrace t i 8 8 ∙ omega arith) ∙ l .loop .inv .1)
+    (omega arith, run-block isPlain plain-high t i 32 (omega arith) (c .before .is-plain .ensures (not-false _ (c .if1 .left))) ∙ l .loop .inv .1)
 
 returns-2 : tie.Need-returns-2 Inv-loop μ-loop
 returns-2 c = (c .before .loop .inv .1, c .before .loop .inv .0)
@@ -63,10 +55,7 @@ plain-blocks-spec =
     μ-loop
     loop-holds
     add-loop
-    braces-requires
-    add-braces
-    braces-requires-2
-    add-if1
+    is-plain-requires
     returns
     add-i
     loop-less

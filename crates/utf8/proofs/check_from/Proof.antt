@@ -15,7 +15,6 @@ use Rattle.utf8.specs.Chars.{charsOf}
 use Rattle.utf8.specs.CharLaws.{before-past}
 use Rattle.utf8.specs.Blocks.{howMany, isHigh}
 use Rattle.utf8.specs.CountLaws.{passed-on, valid-to, chars-to}
-use Rattle.utf8.specs.declared.Sequence.{Sequence}
 use Rattle.utf8.proofs.check_from.Statement.{statement}
 use Rattle.utf8.proofs.check_from.Tie as tie
 
@@ -100,22 +99,22 @@ passed c =
     let e = c .ascii-end .ensures in
     lags-blocks _ _ (c .before .loop .i) (c .ascii-end .result) (c .before .loop .later) (c .before .loop .inv) (e .0) (e .1) (e .3)
 
-sequence-at-requires : tie.Need-sequence-at-requires Inv-loop μ-loop
-sequence-at-requires c κs = search needs
+sequence-width-requires : tie.Need-sequence-width-requires Inv-loop μ-loop
+sequence-width-requires c κs = search needs
 
-width : (c : tie.After-sequence-at Inv-loop μ-loop) → sequenceAt (drop (c .before .ascii-end .result) (now (c .before .before .before .before .before .args .text))) .width ≡ c .sequence-at .result .width
-width c = sym (ap (λ (s : Sequence). s .width) (c .sequence-at .ensures))
+width : (c : tie.After-sequence-width Inv-loop μ-loop) → sequenceAt (drop (c .before .ascii-end .result) (now (c .before .before .before .before .before .args .text))) .width ≡ c .sequence-width .result
+width c = sym (c .sequence-width .ensures)
+
+sub-t10 : tie.Need-sub-t10 Inv-loop μ-loop
+sub-t10 c = omega (arith, passed (c .before .before) .few)
 
 sub-t11 : tie.Need-sub-t11 Inv-loop μ-loop
 sub-t11 c = omega (arith, passed (c .before .before) .few)
 
-sub-t12 : tie.Need-sub-t12 Inv-loop μ-loop
-sub-t12 c = omega (arith, passed (c .before .before) .few)
-
 returns-2 : tie.Need-returns-2 Inv-loop μ-loop
 returns-2 c = done _ _ _ _ (passed (c .before .before) .stands) (width (c .before) ∙ c .if2 .taken)
 
-next : (c : tie.Else2 Inv-loop μ-loop) → Lags (now (c .before .before .before .before .before .before .args .text)) (c .before .before .before .before .before .before .args .at) (c .before .before .ascii-end .result + c .before .sequence-at .result .width) (c .before .before .before .loop .later + (c .before .sequence-at .result .width - 1))
+next : (c : tie.Else2 Inv-loop μ-loop) → Lags (now (c .before .before .before .before .before .before .args .text)) (c .before .before .before .before .before .before .args .at) (c .before .before .ascii-end .result + c .before .sequence-width .result) (c .before .before .before .loop .later + (c .before .sequence-width .result - 1))
 next c = lags-sequence _ _ _ _ _ (passed (c .before .before)) (width (c .before)) (c .if2 .left)
 
 sub-later : tie.Need-sub-later Inv-loop μ-loop
@@ -142,9 +141,9 @@ check-from-spec =
     returns
     loop-holds
     ascii-end-requires
-    sequence-at-requires
+    sequence-width-requires
+    sub-t10
     sub-t11
-    sub-t12
     returns-2
     sub-later
     add-later
