@@ -4,7 +4,7 @@ use mathlib.Core.Path.{_≡_, refl, sym, _∙_, ap}
 use mathlib.Core.Bool.{Bool, true, false, true≢false}
 use mathlib.Core.List.{List, [], _∷_}
 use native.Mathlib.Omega.{arith}
-use borrow.Author.Tests.{eq-eqb, ne-eqb, ltb-true, ltb-false}
+use borrow.Author.Tests.{eq-eqb, ne-eqb, lt-ltb, le-ltb, ltb-true, ltb-false}
 use lib.Dec.{eqb, ltb}
 use lib.ListN.{length, getD, List·getD-eq-default}
 use Rattle.utf8.specs.Choice.{pick, within}
@@ -19,7 +19,7 @@ use Rattle.utf8.specs.declared.Seen.{Seen}
 use Rattle.utf8.specs.declared.Seen.the-variants.{Char, End}
 use Rattle.frame.specs.Places.{place, rangeOf}
 use Rattle.scan.specs.Characters.{isAt, consumed}
-use Rattle.scan.specs.Words.{isDigit, digitsAt, numberFrom, numberRead, wordEnd, isUnderscore, wordRead}
+use Rattle.scan.specs.Words.{isDigit, digitsAt, numberFrom, numberRead, wordEnd, wordFrom, isUnderscore, wordRead}
 use Rattle.scan.specs.ScanLaws.{run-in, word-in, is-at-byte, is-at-end}
 use Rattle.scan.specs.declared.Flaw.{Flaw}
 use Rattle.scan.specs.declared.Number.{Number}
@@ -166,6 +166,16 @@ module _ (t : List ℕ) (at : ℕ) {b : ℕ} (e : b ≡ getD t at 0) (l : b < 0x
           let z : asciiStart (getD t at 0) ≡ false = rw e at y in
           rw (ascii-char t at (ltb-true at (length t) q) (omega arith), ascii-start (getD t at 0) (omega arith), z)
       go false q = rw (past-end t at (ltb-false at (length t) q))
+
+-- a word of which nothing was passed, or of which ASCII letters were, ends where it does
+pub word-anew : (t : List ℕ) (at : ℕ) {known : ℕ} → known ≡ at → wordFrom t (place at) known .0 ≡ wordEnd t (place at) .0
+unfolding wordFrom pick
+word-anew t at {known} e = simp (le-ltb at known (omega arith))
+
+pub word-further : (t : List ℕ) (at : ℕ) {b known : ℕ} → b ≡ getD t at 0 → b < 0x80 → asciiStart b ≡ true → AsciiRun t (at + 1) known →
+    wordFrom t (place at) known .0 ≡ wordEnd t (place at) .0
+unfolding wordFrom pick
+word-further t at {b} {known} e l y r = rw (lt-ltb at known (omega (arith, r .on))) (r .run ∙ sym (word-start t at e l y))
 
 -- a run of continuations stops at an ASCII byte that is none, and at the end
 pub continue-stop : (t : List ℕ) (i : ℕ) {c : ℕ} → c ≡ getD t i 0 → c < 0x80 → (i < length t → asciiContinue (getD t i 0) ≡ false) → runEnd isContinue t i ≡ i

@@ -175,12 +175,14 @@ fn ascii_end(text: &[u8], at: usize) -> usize
     i
 }
 
-// The word at a place. One in ASCII is passed here, and only one with other letters takes a call: so this is small enough to stand in its callers.
+// The word at a place. One in ASCII is passed here, and only one with other letters takes a call, which goes on from there: so this is small enough to
+// stand in its callers.
 pub fn word_at(text: &[u8], at: usize) -> WordTold
     requires { ⌜ Room (now text) at ⌝ }
     ensures { λ r. ⌜ WordKnown (now (text .entry)) at r ⌝ }
 {
     let b = utf8::byte(text, at);
+    let mut known = at;
     if b < 0x80 {
         if !letters::ascii_start(b) {
             return WordTold {
@@ -188,12 +190,15 @@ pub fn word_at(text: &[u8], at: usize) -> WordTold
                 ascii: true,
             };
         }
-        let end = ascii_end(text, at + 1);
-        if utf8::byte(text, end) < 0x80 {
-            return WordTold { end, ascii: true };
+        known = ascii_end(text, at + 1);
+        if utf8::byte(text, known) < 0x80 {
+            return WordTold {
+                end: known,
+                ascii: true,
+            };
         }
     }
-    let end = scan::word_end(whole(text), TextPlace(at));
+    let end = scan::word_from(whole(text), TextPlace(at), known);
     WordTold {
         end: end.0,
         ascii: false,

@@ -29,6 +29,10 @@ wordSeen t at (Char c w) = pick (isStart c) (place (runEnd isContinue t (at .0 +
 unfoldable pub wordEnd : List ℕ → TextPlace → TextPlace
 wordEnd t at = wordSeen t at (peekAt t (at .0))
 
+-- the same, where the characters before a place past the word's start were passed; where it is not past it, none were
+unfoldable pub wordFrom : List ℕ → TextPlace → ℕ → TextPlace
+wordFrom t at known = pick (ltb (at .0) known) (place (runEnd isContinue t known)) (wordEnd t at)
+
 -- the word from a place to its end is `_` (R3.6)
 unfoldable pub isUnderscore : List ℕ → TextPlace → TextPlace → Bool
 isUnderscore t at end = both (isAt t at (code "_")) (eqb (end .0) (at .0 + 1))

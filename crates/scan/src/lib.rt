@@ -15,7 +15,7 @@ ghost use Rattle.utf8.specs.Chars.{runEnd};
 ghost use Rattle.utf8.specs.Blocks.{one, howMany};
 ghost use Rattle.scan.specs.Characters.{isAt, pastAt, consumed, spacesPast, isPlain, textEnd};
 ghost use Rattle.scan.specs.Ends.{endOf, spanAcross};
-ghost use Rattle.scan.specs.Words.{isDigit, wordEnd, wordRead, numberFrom, numberRead};
+ghost use Rattle.scan.specs.Words.{isDigit, wordEnd, wordFrom, wordRead, numberFrom, numberRead};
 ghost use Rattle.scan.specs.Wrapping.{noted, told};
 ghost use Rattle.scan.specs.Counts.{isEmpty, numberCount, nameCount, countRead};
 
@@ -249,6 +249,17 @@ pub fn word_end(text: &[u8], at: TextPlace) -> TextPlace
     ensures { λ r. ⌜ r ≡ wordEnd (now (text .entry)) at ⌝ }
 {
     let i = at.0;
+    word_from(text, at, i)
+}
+
+// The same, where the characters before `known` were passed; where that is not past the place, none were. So a caller that passed some need not begin anew.
+pub fn word_from(text: &[u8], at: TextPlace, known: usize) -> TextPlace
+    ensures { λ r. ⌜ r ≡ wordFrom (now (text .entry)) at known ⌝ }
+{
+    let i = at.0;
+    if i < known {
+        return TextPlace(letters::continue_end(text, known));
+    }
     match utf8::peek(text, i) {
         Seen::Char { code, width } => {
             if letters::is_start(code) {

@@ -1,13 +1,17 @@
--- `quick::word_at` meets its contract: an ASCII byte is its own character, and 0, which stands past the end too, starts no word and continues none.
+-- `quick::word_at` meets its contract: an ASCII byte is its own character, and 0, which stands past the end too, starts no word and continues none;
+-- where another letter follows, the word goes on from there.
 use borrow.Author.Needs.{needs}
 use borrow.Author.Tests.{not-true, not-false}
-use mathlib.Core.Path.{sym, _∙_, ap}
+use mathlib.Core.Path.{_≡_, sym, _∙_, ap}
+use mathlib.Core.Logic.{⊎-elim}
 use mathlib.Core.Bool.{true≢false}
 use native.Mathlib.Omega.{arith}
 use denote.Ref.{now}
+use Rattle.frame.specs.Places.{place}
+use Rattle.scan.specs.Words.{wordEnd, wordFrom}
 use Rattle.scan.specs.ScanLaws.{word-on}
 use Rattle.frame.specs.declared.TextPlace.{TextPlace}
-use Rattle.quick.proofs.Bytes.{word-start, word-none, continue-stop, no-chars, start-chars}
+use Rattle.quick.proofs.Bytes.{word-start, word-none, word-anew, word-further, continue-stop, no-chars, start-chars}
 use Rattle.quick.proofs.word_at.Statement.{statement}
 use Rattle.quick.proofs.word_at.Tie as tie
 
@@ -51,12 +55,20 @@ returns-2 c =
 whole-requires : tie.Need-whole-requires
 whole-requires c κs = search needs
 
-word-end-requires : tie.Need-word-end-requires
-word-end-requires c κs = search needs
+word-from-requires : tie.Need-word-from-requires
+word-from-requires c κs = search needs
 
 returns-3 : tie.Need-returns-3
 returns-3 c =
-    let e = rw (c .before .whole .ensures) at (ap (λ (p : TextPlace). p .0) (c .word-end .ensures)) in
+    let j = c .before .before in
+    let t = now (j .before .before .before .args .text) in
+    let at = j .before .before .before .args .at in
+    let known : wordFrom t (place at) (j .if1 .known) .0 ≡ wordEnd t (place at) .0 =
+    ⊎-elim
+    (λ w. rw (w .6) (word-further t at (j .before .byte .ensures) (w .0 .taken) (sym (w .1 .ensures) ∙ not-false _ (w .2 .left)) (w .3 .ensures)))
+    (λ w. word-anew t at (w .1))
+    (j .if1 .came) in
+    let e = rw (c .before .whole .ensures) at (ap (λ (p : TextPlace). p .0) (c .word-from .ensures)) ∙ known in
     record { ends = e; on = rw e (word-on _ _); chars = λ y. absurd (true≢false (sym y)) }
 
 pub word-at-spec : {M : Type 1} → statement M
@@ -71,5 +83,5 @@ word-at-spec =
     byte-requires-2
     returns-2
     whole-requires
-    word-end-requires
+    word-from-requires
     returns-3)
