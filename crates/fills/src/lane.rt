@@ -18,6 +18,7 @@ ghost use Prim.Native.Nat.{_+_, _*_, _≤_, _<_};
 ghost use lib.ListN.{length, getD};
 ghost use Rattle.frame.specs.Bounds.{Small};
 ghost use Rattle.frame.specs.declared.Mode.{Mode as Modes};
+ghost use Rattle.scan.specs.Characters.{textEnd};
 ghost use Rattle.reading.specs.Lists.{piecesOf};
 ghost use Rattle.reading.specs.Steps.{stepAt};
 ghost use Rattle.writing.specs.StepsWritten.{StepRoom, SteppedOn};
@@ -69,6 +70,19 @@ fn pass_brace(text: &[u8], frame: Frame, state: State, n: usize, pieces: &mut [u
     }
 }
 
+// The end of the literal text at a place within the text. A short one is passed here, and only a long one takes a call.
+fn literal_end(text: &[u8], at: TextPlace) -> TextPlace
+    requires { ⌜ at .0 < length (now text) ⌝ }
+    ensures { λ r. ⌜ r ≡ textEnd (now (text .entry)) at ⌝ }
+{
+    let i = at.0;
+    let near = scan::brace_before(text, scan::after_eight(text, i), i + 16);
+    if near < i + 16 {
+        return TextPlace(near);
+    }
+    scan::string_end(quick::whole(text), TextPlace(near))
+}
+
 // The step where reading stands: passed where it is literal text, or a placeholder in which nothing is wrong.
 fn pass(text: &[u8], frame: Frame, state: State, n: usize, pieces: &mut [u32]) -> Passed
     requires { ⌜ Small (now text) frame × (state .next < 0xFFFFE) × (40 * (n + length (piecesOf (stepAt (now text) frame Modes.Format state))) ≤ length (now pieces)) ⌝ }
@@ -86,7 +100,7 @@ fn pass(text: &[u8], frame: Frame, state: State, n: usize, pieces: &mut [u32]) -
     if b == b'}' {
         return stay(state);
     }
-    let end = scan::string_end(quick::whole(text), at);
+    let end = literal_end(text, at);
     put_literal(pieces, n, i, end.0);
     Passed {
         on: true,

@@ -141,12 +141,25 @@ pub fn string_end(text: &[u8], at: TextPlace) -> TextPlace
         return at;
     }
     // Most literals between placeholders are short: blocks are tried from the sixteenth byte on.
-    let near = brace_before(text, i, i + 16);
+    let near = brace_before(text, after_eight(text, i), i + 16);
     if near < i + 16 {
         return TextPlace(near);
     }
     let from = plain_blocks(text, near);
     TextPlace(brace_before(text, from, text.len() + 1))
+}
+
+// The place after eight bytes without a brace at `at`; the same place where one is among them, or fewer are left.
+pub fn after_eight(text: &[u8], at: usize) -> usize
+    requires { ⌜ at ≤ length (now text) ⌝ }
+    ensures { λ r. ⌜ (runEnd isPlain (now (text .entry)) r ≡ runEnd isPlain (now (text .entry)) at) × (r ≤ length (now (text .entry))) ⌝ }
+{
+    if at + 8 <= text.len() {
+        if plains(text, at) == 8 {
+            return at + 8;
+        }
+    }
+    at
 }
 
 // The place after the blocks of 32 bytes without a brace at `at`. A block is one test.
@@ -165,7 +178,7 @@ fn plain_blocks(text: &[u8], at: usize) -> usize
 }
 
 // The place of the first brace from `at` on, or the end, if it is before `limit`; else a place up to which there is none.
-fn brace_before(text: &[u8], at: usize, limit: usize) -> usize
+pub fn brace_before(text: &[u8], at: usize, limit: usize) -> usize
     requires { ⌜ at ≤ length (now text) ⌝ }
     ensures { λ r. ⌜ (runEnd isPlain (now (text .entry)) r ≡ runEnd isPlain (now (text .entry)) at) × (r ≤ length (now (text .entry))) ⌝ }
     ensures { λ r. ⌜ (r < limit → r ≡ runEnd isPlain (now (text .entry)) at) ⌝ }

@@ -15,6 +15,9 @@ returns c =
     let a = c .before .before .args in
     sym (ap place (run-end isPlain (now (a .text)) (a .at .0) (past-end (now (a .text)) (a .at .0) (c .if1 .taken))))
 
+after-eight-requires : tie.Need-after-eight-requires
+after-eight-requires c κs = omega arith
+
 add-brace-before : tie.Need-add-brace-before
 add-brace-before c = omega arith
 
@@ -26,7 +29,7 @@ add-if2 c = omega arith
 
 returns-2 : tie.Need-returns-2
 unfolding textEnd
-returns-2 c = ap place (c .before .brace-before .ensures .1 (c .if2 .taken))
+returns-2 c = ap place (c .before .brace-before .ensures .1 (c .if2 .taken) ∙ c .before .before .after-eight .ensures .0)
 
 plain-blocks-requires : tie.Need-plain-blocks-requires
 plain-blocks-requires c κs = omega arith
@@ -42,9 +45,9 @@ unfolding textEnd
 returns-3 c =
     let near = c .before .before .before .brace-before .ensures in
     let far = c .before .plain-blocks .ensures in
-    ap place (c .brace-before2 .ensures .1 (omega arith) ∙ far .0 ∙ near .0 .0)
+    ap place (c .brace-before2 .ensures .1 (omega arith) ∙ far .0 ∙ near .0 .0 ∙ c .before .before .before .before .after-eight .ensures .0)
 
 pub string-end-spec : {M : Type 1} → statement M
 string-end-spec =
     tie.close
-    (tie.spec returns add-brace-before brace-before-requires add-if2 returns-2 plain-blocks-requires add-brace-before-2 brace-before-requires-2 returns-3)
+    (tie.spec returns after-eight-requires add-brace-before brace-before-requires add-if2 returns-2 plain-blocks-requires add-brace-before-2 brace-before-requires-2 returns-3)
