@@ -29,24 +29,21 @@ stay-requires-2 c κs = search needs
 returns-3 : tie.Need-returns-3
 returns-3 c = let a = c .before .before .before .before .before .before .before .before .args in stopped-none (now (a .text)) (a .frame) (a .state) (a .n) (now (a .pieces)) (c .stay2 .ensures)
 
-whole-requires : tie.Need-whole-requires
-whole-requires c κs = search needs
-
-string-end-requires : tie.Need-string-end-requires
-string-end-requires c κs = search needs
+literal-end-requires : tie.Need-literal-end-requires
+literal-end-requires c κs = search needs
 
 put-literal-requires : tie.Need-put-literal-requires
 put-literal-requires c κs =
-    let a = c .before .before .before .before .before .before .before .before .before .before .args in
-    literal-fits (now (a .text)) (a .frame) (a .state) (a .n) (now (a .pieces)) (c .before .before .before .before .before .before .if1 .left) (c .before .before .before .before .if2 .left) (c .before .before .before .if3 .left) (c .before .before .before .before .before .before .before .before .before .before .pre .2)
+    let a = c .before .before .before .before .before .before .before .before .before .args in
+    literal-fits (now (a .text)) (a .frame) (a .state) (a .n) (now (a .pieces)) (c .before .before .before .before .before .if1 .left) (c .before .before .before .if2 .left) (c .before .before .if3 .left) (c .before .before .before .before .before .before .before .before .before .pre .2)
 
 same-length-2 : tie.Need-same-length-2
 same-length-2 c = search needs
 
 returns-4 : tie.Need-returns-4
 returns-4 c =
-    let a = c .before .before .before .before .before .before .before .before .before .before .before .before .before .args in
-    literal-passed (now (a .text)) (a .frame) (a .state) (a .n) (now (a .pieces)) (c .before .before .before .before .before .before .before .before .before .if1 .left) (c .before .before .before .before .before .before .before .if2 .left) (c .before .before .before .before .before .before .if3 .left) (rw (c .before .before .before .before .before .whole .ensures) at (c .before .before .before .before .string-end .ensures)) (c .before .before .put-literal .ensures)
+    let a = c .before .before .before .before .before .before .before .before .before .before .before .before .args in
+    literal-passed (now (a .text)) (a .frame) (a .state) (a .n) (now (a .pieces)) (c .before .before .before .before .before .before .before .before .if1 .left) (c .before .before .before .before .before .before .if2 .left) (c .before .before .before .before .before .if3 .left) (c .before .before .before .before .literal-end .ensures) (c .before .before .put-literal .ensures)
 
 pub pass-spec : {M : Type 1} → statement M
 pass-spec =
@@ -60,8 +57,7 @@ pass-spec =
     returns-2
     stay-requires-2
     returns-3
-    whole-requires
-    string-end-requires
+    literal-end-requires
     put-literal-requires
     same-length-2
     returns-4)
