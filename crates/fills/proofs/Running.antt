@@ -35,6 +35,7 @@ use Rattle.fills.specs.declared.lane.Stopped.{Stopped}
 use Rattle.writing.specs.declared.Extent.{Extent}
 use Rattle.writing.specs.declared.StepWritten.{StepWritten}
 use Rattle.writing.proofs.Overlays.{laid-none, laid-first, over-again, gather-length}
+use Rattle.fills.proofs.Stopping.{left-end, left-over}
 use Rattle.writing.proofs.Noting.{noticed-none, noticed-same, notes-none, Left, left-first, left-on, left-room, inWords, words-more, words-none, words-length, Counted, notes-counted, notes-placed}
 
 -- HOW MANY: there are as many records as go to the front and to the back
@@ -327,6 +328,12 @@ module _ (t : List ℕ) (f : Frame) (m : Mode) (k : ℕ) (ps₀ es₀ : List ℕ
       lane-left same =
           let v = lane-underway in
           record { pieces = omega (arith, standing-room v .pieces, v .going .pieces .same, u .going .pieces .same, same); errors = standing-room v .errors }
+
+      -- at the end of the text all is written
+      pub lane-over : length t ≤ o .state .at .0 → Ran t f m k ps₀ es₀ (further r (o .pieces)) ps₁ es × Figures t f m (o .state .arguments) (g + o .given) (o .state .at .0)
+      lane-over e =
+          let w = underway-over lane-underway (left-over t f m (o .state) (d .tried) (left-end t f m (o .state) e)) refl in
+          (w .0, record { wanted = w .1 .wanted; gave = omega (arith, w .1 .gave); stopped = w .1 .stopped })
 
 -- A TURN PASSES A BYTE: the lane goes back nowhere
 module _ (t : List ℕ) (f : Frame) (m : Mode) where

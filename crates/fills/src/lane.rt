@@ -230,7 +230,7 @@ fn write_open(
     }
 }
 
-// The step where the lane stopped.
+// The step where the lane stopped before the text's end.
 pub fn write_left(
     text: &[u8],
     frame: Frame,
@@ -240,18 +240,10 @@ pub fn write_left(
     errors: &mut [u32],
     extent: Extent,
 ) -> StepWritten
-    requires { ⌜ Small (now text) frame × (state .next < 0xFFFFE) × StepRoom (stepAt (now text) frame mode state) extent (now pieces) (now errors) ⌝ }
+    requires { ⌜ Small (now text) frame × (state .next < 0xFFFFE) × StepRoom (stepAt (now text) frame mode state) extent (now pieces) (now errors) × (state .at .0 < length (now text)) ⌝ }
     ensures { λ r. ⌜ SteppedOn (now (text .entry)) frame mode state extent (now (pieces .entry)) (now (errors .entry)) r (now (pieces .exit)) (now (errors .exit)) ⌝ }
 {
     let i = state.at.0;
-    if text.len() <= i {
-        return StepWritten {
-            more: false,
-            state,
-            extent,
-            given: 0,
-        };
-    }
     if is_open(text, mode, i) {
         return write_open(text, frame, state, pieces, errors, extent);
     }

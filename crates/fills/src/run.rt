@@ -64,6 +64,14 @@ fn run(
             high: extent.high,
             fronts: extent.fronts,
         };
+        if text.len() <= reached.at.0 {
+            return Written {
+                extent: so_far,
+                arguments: reached.arguments,
+                given: given + stopped.given,
+                stop: reached.at.0,
+            };
+        }
         let step = write_left(
             text,
             frame,
