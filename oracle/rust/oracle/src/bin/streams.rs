@@ -2,7 +2,7 @@
 
 use oracle::exit;
 use oracle::make::every::Every;
-use oracle::make::{bench, members, notices, numbers, random};
+use oracle::make::{bench, lanes, members, notices, numbers, random};
 use std::io::{self, BufWriter, Write};
 use std::process::ExitCode;
 
@@ -13,6 +13,8 @@ usage: streams all LENGTH ALPHABET [PREFIX]   every text up to LENGTH characters
        streams notices SEED COUNT             seeded Diagnostic source literals of several lines
        streams numbers SEED COUNT             seeded texts rich in numbers, up to 65,535 and beyond
        streams members SEED COUNT             seeded texts rich in `number` and `date`
+       streams lanes SEED COUNT               seeded texts rich in what the ways of reading hand to
+                                              each other
        streams bench                          B1 to B15
 In ALPHABET and PREFIX \\n is a newline, \\t a tabulator and \\\\ a backslash.";
 
@@ -49,6 +51,9 @@ fn make(words: &[&str], output: &mut impl Write) -> Option<io::Result<()>> {
         }
         ["members", seed, count] => {
             Some(members::write(seed.parse().ok()?, count.parse().ok()?, output))
+        }
+        ["lanes", seed, count] => {
+            Some(lanes::write(seed.parse().ok()?, count.parse().ok()?, output))
         }
         ["bench"] => Some(bench::cases().iter().try_for_each(|draft| draft.case().write(output))),
         _ => None,

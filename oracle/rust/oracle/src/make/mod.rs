@@ -1,10 +1,11 @@
-//! The makers of cases: every short text, the bench, seeded random cases, notices, numbers, and member
-//! templates.
+//! The makers of cases: every short text, the bench, seeded random cases, notices, numbers, member
+//! templates, and what the ways of reading hand to each other.
 
 pub mod bench;
 pub mod dice;
 pub mod every;
 pub mod frames;
+pub mod lanes;
 pub mod limits;
 pub mod members;
 pub mod notices;
