@@ -3,6 +3,7 @@ use Prim.Native.Nat.{ℕ, _+_, _*_, _≤_, _<_}
 use mathlib.Core.Path.{_≡_, refl, _∙_}
 use mathlib.Core.Bool.{true, false}
 use mathlib.Core.List.{List}
+use native.Mathlib.Omega.{arith}
 use lib.ListN.{length}
 use Rattle.frame.specs.declared.Frame.{Frame}
 use Rattle.frame.specs.declared.Mode.{Mode}
@@ -36,6 +37,10 @@ left-over t f m s w d =
       over = d .over;
       given = d .given;
     }
+
+-- there is the same room in a list of the same length
+pub room-again : {x : Step} {k : Extent} {ps ps₁ es : List ℕ} → StepRoom x k ps es → length ps₁ ≡ length ps → StepRoom x k ps₁ es
+room-again r e = record { pieces = omega (arith, r .pieces, e); errors = r .errors }
 
 -- A PLACEHOLDER, told or tried
 module _ (t : List ℕ) (f : Frame) (s : State) (h : s .at .0 < length t) (o : Open t Mode.Format (s .at .0)) {k : Extent} {ps es : List ℕ}

@@ -146,7 +146,7 @@ fn lane(text: &[u8], frame: Frame, from: State, written: usize, pieces: &mut [u3
     }
 }
 
-// The same frame, a copy.
+// Copies, for calls that stay calls: what is lent to one is kept in memory from where it is made on (docs/SPEED.md).
 fn own(frame: Frame) -> Frame
     ensures { λ r. ⌜ r ≡ frame ⌝ }
 {
@@ -155,6 +155,28 @@ fn own(frame: Frame) -> Frame
         quote: frame.quote,
         end,
         literal: frame.literal,
+    }
+}
+
+fn own_state(state: State) -> State
+    ensures { λ r. ⌜ r ≡ state ⌝ }
+{
+    let at = state.at;
+    State {
+        at,
+        next: state.next,
+        arguments: state.arguments,
+    }
+}
+
+fn own_extent(extent: Extent) -> Extent
+    ensures { λ r. ⌜ r ≡ extent ⌝ }
+{
+    Extent {
+        pieces: extent.pieces,
+        low: extent.low,
+        high: extent.high,
+        fronts: extent.fronts,
     }
 }
 
@@ -219,7 +241,15 @@ fn write_open(
     let i = state.at.0;
     let told = write_placeholder(&mut *pieces, extent.pieces, text, frame, i, state.next);
     if !told.ok {
-        return write_step(text, frame, Mode::Format, state, pieces, errors, extent);
+        return write_step(
+            quick::whole(text),
+            own(frame),
+            Mode::Format,
+            own_state(state),
+            pieces,
+            errors,
+            own_extent(extent),
+        );
     }
     let spec = told.spec;
     StepWritten {
@@ -247,5 +277,13 @@ pub fn write_left(
     if is_open(text, mode, i) {
         return write_open(text, frame, state, pieces, errors, extent);
     }
-    write_step(text, frame, mode, state, pieces, errors, extent)
+    write_step(
+        quick::whole(text),
+        own(frame),
+        mode,
+        own_state(state),
+        pieces,
+        errors,
+        own_extent(extent),
+    )
 }

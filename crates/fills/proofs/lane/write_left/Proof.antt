@@ -21,8 +21,22 @@ same-length-2 c = search needs
 returns : tie.Need-returns
 returns c = rw (c .before .before .before .before .before .before .before .before .is-open .ensures (c .before .before .before .before .before .before .before .if1 .taken) .mode) (c .before .before .before .before .write-open .ensures)
 
+whole-requires : tie.Need-whole-requires
+whole-requires c κs = search needs
+
+own-requires : tie.Need-own-requires
+own-requires c κs = search needs
+
+own-state-requires : tie.Need-own-state-requires
+own-state-requires c κs = search needs
+
+own-extent-requires : tie.Need-own-extent-requires
+own-extent-requires c κs = search needs
+
 write-step-requires : tie.Need-write-step-requires
-write-step-requires c κs = search needs
+write-step-requires c κs =
+    let p = c .before .before .before .before .before .before .before .before .before .before .before .pre in
+    rw (c .before .before .before .before .before .whole .ensures, c .before .before .before .before .own .ensures, c .before .before .before .own-state .ensures, c .own-extent .ensures) (p .0, p .1, p .2)
 
 same-length-3 : tie.Need-same-length-3
 same-length-3 c = search needs
@@ -31,7 +45,7 @@ same-length-4 : tie.Need-same-length-4
 same-length-4 c = search needs
 
 returns-2 : tie.Need-returns-2
-returns-2 c = search needs
+returns-2 c = rw (c .before .before .before .before .before .before .before .before .before .before .whole .ensures, c .before .before .before .before .before .before .before .before .before .own .ensures, c .before .before .before .before .before .before .before .before .own-state .ensures, c .before .before .before .before .before .own-extent .ensures) at (c .before .before .before .before .write-step .ensures)
 
 pub write-left-spec : {M : Type 1} → statement M
 write-left-spec =
@@ -42,6 +56,10 @@ write-left-spec =
     same-length
     same-length-2
     returns
+    whole-requires
+    own-requires
+    own-state-requires
+    own-extent-requires
     write-step-requires
     same-length-3
     same-length-4

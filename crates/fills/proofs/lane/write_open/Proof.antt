@@ -1,9 +1,10 @@
 -- `fills::lane::write_open` meets its contract: what is told is written and needs its records, and anything else is the plain step.
 use borrow.Author.Needs.{needs}
 use borrow.Author.Tests.{not-false}
+use mathlib.Core.Path.{_∙_}
 use native.Mathlib.Omega.{arith}
 use denote.Ref.{now}
-use Rattle.fills.proofs.Stopping.{left-over, one-fits, open-tried, told-here, open-told}
+use Rattle.fills.proofs.Stopping.{left-over, one-fits, open-tried, room-again, told-here, open-told}
 use Rattle.fills.proofs.lane.write_open.Statement.{statement}
 use Rattle.fills.proofs.lane.write_open.Tie as tie
 
@@ -13,21 +14,35 @@ write-placeholder-requires c κs =
     let a = c .before .before .before .before .args in
     (p .0, p .3, p .1, one-fits (now (a .text)) (a .frame) (a .state) (p .3) (p .4) (p .2))
 
+whole-requires : tie.Need-whole-requires
+whole-requires c κs = search needs
+
+own-requires : tie.Need-own-requires
+own-requires c κs = search needs
+
+own-state-requires : tie.Need-own-state-requires
+own-state-requires c κs = search needs
+
+own-extent-requires : tie.Need-own-extent-requires
+own-extent-requires c κs = search needs
+
 write-step-requires : tie.Need-write-step-requires
-write-step-requires c κs = search needs
+write-step-requires c κs =
+    let p = c .before .before .before .before .before .before .before .before .before .before .before .before .before .before .before .pre in
+    rw (c .before .before .before .before .before .whole .ensures, c .before .before .before .before .own .ensures, c .before .before .before .own-state .ensures, c .own-extent .ensures) (p .0, p .1, room-again (p .2) (c .before .before .before .before .before .before .before .before .before .pieces .given))
 
 same-length : tie.Need-same-length
-same-length c = search needs
+same-length c = c .before .before .before .pieces2 .given ∙ c .before .before .before .before .before .before .before .before .before .before .before .before .before .before .pieces .given
 
 same-length-2 : tie.Need-same-length-2
 same-length-2 c = search needs
 
 returns : tie.Need-returns
 returns c =
-    let p = c .before .before .before .before .before .before .before .before .before .before .before .before .before .before .before .before .pre in
-    let a = c .before .before .before .before .before .before .before .before .before .before .before .before .before .before .before .before .args in
-    let w = c .before .before .before .before .before .before .before .before .before .before .before .write-placeholder .ensures in
-    left-over (now (a .text)) (a .frame) _ (a .state) (open-tried (now (a .text)) (a .frame) (a .state) (p .3) (p .4) (p .2) (w .0) (w .1)) (c .before .before .before .before .write-step .ensures)
+    let p = c .before .before .before .before .before .before .before .before .before .before .before .before .before .before .before .before .before .before .before .before .pre in
+    let a = c .before .before .before .before .before .before .before .before .before .before .before .before .before .before .before .before .before .before .before .before .args in
+    let w = c .before .before .before .before .before .before .before .before .before .before .before .before .before .before .before .write-placeholder .ensures in
+    left-over (now (a .text)) (a .frame) _ (a .state) (open-tried (now (a .text)) (a .frame) (a .state) (p .3) (p .4) (p .2) (w .0) (w .1)) (rw (c .before .before .before .before .before .before .before .before .before .before .whole .ensures, c .before .before .before .before .before .before .before .before .before .own .ensures, c .before .before .before .before .before .before .before .before .own-state .ensures, c .before .before .before .before .before .own-extent .ensures) at (c .before .before .before .before .write-step .ensures))
 
 after-told-requires : tie.Need-after-told-requires
 after-told-requires c κs = search needs
@@ -69,6 +84,10 @@ write-open-spec =
     tie.close
     (tie.spec
     write-placeholder-requires
+    whole-requires
+    own-requires
+    own-state-requires
+    own-extent-requires
     write-step-requires
     same-length
     same-length-2
