@@ -1,21 +1,18 @@
 -- What a decision on a text that may be known says, and that of a fresh text it is the answer to the call. Rests on Asking and the laws of the answer.
-use Prim.Native.Nat.{ℕ, _≤_}
+use Prim.Native.Nat.{ℕ}
 use mathlib.Core.Path.{_≡_, refl, ap, sym, _∙_}
 use mathlib.Core.Bool.{Bool, true, false}
 use mathlib.Core.List.{List}
-use borrow.Author.Tests.{eq-eqb, ne-eqb, eqb-true, eqb-false}
+use borrow.Author.Tests.{eq-eqb, ne-eqb, eqb-false}
 use lib.Dec.{eqb}
-use lib.ListN.{length}
 use Rattle.utf8.specs.Choice.{pick}
-use Rattle.utf8.specs.Utf8.{validPrefix}
 use Rattle.frame.specs.Bounds.{Small}
 use Rattle.reading.specs.Answers.{frameFor, modeFor, answerOf}
 use Rattle.reading.specs.Lists.{countsOf}
 use Rattle.reading.specs.declared.Answer.{Answer}
-use Rattle.reading.specs.declared.Counts.{Counts}
 use Rattle.reading.specs.declared.Request.{Request}
 use Rattle.reading.specs.declared.Rooms.{Rooms}
-use Rattle.laws.specs.Deciding.{roomFor, countedBy, countedAnswer, openAnswer, open-by}
+use Rattle.laws.specs.Deciding.{countedBy, countedAnswer, openAnswer, open-by}
 use Rattle.laws.specs.AnswerLaws.{small-frame, room-enough, Done, answer-open}
 use Rattle.answer.specs.Asking.{freshly, validBy, openAsked, askedAnswer, OpenedBy, DecidedBy}
 use Rattle.answer.specs.declared.Asked.{Asked}

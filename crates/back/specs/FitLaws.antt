@@ -8,10 +8,8 @@ use native.Mathlib.Omega.{arith}
 use borrow.Author.Tests.{ltb-true}
 use lib.ListN.{length}
 use Rattle.utf8.specs.ChoiceLaws.{pick-elim}
-use Rattle.utf8.specs.Chars.{runEnd}
 use Rattle.utf8.specs.CharLaws.{peeked}
 use Rattle.utf8.specs.declared.Seen.{Seen}
-use Rattle.frame.specs.Places.{place, rangeOf}
 use Rattle.frame.specs.Spans.{toSnippet, startOf, spanBetween}
 use Rattle.frame.specs.Bounds.{Small}
 use Rattle.frame.specs.declared.TextPlace.{TextPlace}

@@ -1,7 +1,7 @@
 -- Where a closing brace is missing: kinds 2 and 3, and the suggestions, kinds 8 to 15, which "follow 2 .. only when two characters remain".
 use Prim.Native.Nat.{ℕ}
 use Prim.Native.Char.{code}
-use mathlib.Core.Bool.{Bool, true, false}
+use mathlib.Core.Bool.{Bool}
 use mathlib.Core.List.{List}
 use lib.Dec.{eqb, ltb}
 use lib.ListN.{length}

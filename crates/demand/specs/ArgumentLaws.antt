@@ -1,7 +1,7 @@
 -- What the figure of some pieces says: no number of an implicit place or a star is at or above it, and no span counts for it.
 -- Rests on Wants, Numbering and Spanless.
 use mathlib.Core.Path.{_≡_, refl, ap, _∙_}
-use mathlib.Core.List.{List, [], _∷_, map}
+use mathlib.Core.List.{List, [], _∷_}
 use Prim.Native.Nat.{ℕ, _≤_, _<_}
 use native.Mathlib.Omega.{arith}
 use Rattle.scan.specs.declared.Count.{Count}

@@ -1,6 +1,6 @@
 -- How many arguments joined pieces want: the larger of what the first's want and what the second's, moved and raised, want.
 -- Rests on Joins and on the laws of the figure.
-use mathlib.Core.Path.{_≡_, refl, sym, ap, _∙_}
+use mathlib.Core.Path.{_≡_, sym, ap, _∙_}
 use mathlib.Core.Bool.{Bool, true, false}
 use mathlib.Core.List.{List, [], _∷_, map}
 use Prim.Native.Nat.{ℕ}

@@ -1,7 +1,7 @@
 -- The moves of a reading as they are told: each character before the place where reading stopped once, a lone `}` there, and what was given
 -- back. Rests on Moves, StateLaws and StepLaws, and on the laws of what reading passes.
 use Prim.Native.Nat.{ℕ, zero, suc, _+_, _-_, _*_, _≤_, _<_}
-use mathlib.Core.Path.{_≡_, refl, sym, ap, _∙_, subst}
+use mathlib.Core.Path.{_≡_, refl, sym, ap, _∙_}
 use mathlib.Core.Bool.{Bool, true, false}
 use mathlib.Core.List.{List, [], _∷_}
 use native.Mathlib.Nat.{add-zero}
@@ -12,10 +12,10 @@ use lib.ListN.{length}
 use Rattle.utf8.specs.Choice.{pick, either}
 use Rattle.utf8.specs.ChoiceLaws.{pick-elim}
 use Rattle.utf8.specs.Utf8.{peekAt}
-use Rattle.utf8.specs.Chars.{Ch, charsFrom, charsOf}
+use Rattle.utf8.specs.Chars.{Ch, charsOf}
 use Rattle.utf8.specs.CharLaws.{peeked, before-more, before-past}
 use Rattle.utf8.specs.declared.Seen.the-variants.{Char}
-use Rattle.frame.specs.Places.{place, rangeOf}
+use Rattle.frame.specs.Places.{rangeOf}
 use Rattle.frame.specs.declared.Frame.{Frame}
 use Rattle.frame.specs.declared.Mode.{Mode}
 use Rattle.frame.specs.declared.TextPlace.{TextPlace}

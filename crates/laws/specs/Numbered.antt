@@ -1,6 +1,6 @@
 -- That no number which an argument took is large, for the functions that add one to it: a number that is written has two bytes.
 -- Rests on the records that the reader declares.
-use Prim.Native.Nat.{ℕ, _<_}
+use Prim.Native.Nat.{_<_}
 use Rattle.scan.specs.declared.Count.{Count}
 use Rattle.placeholder.specs.declared.Argument.{Argument}
 use Rattle.placeholder.specs.declared.Place.{Place}

@@ -1,7 +1,7 @@
 -- Laws of the figure that pieces want: of the larger of two numbers, of joined lists, and that no number which a step takes is large.
 -- Rests on Wants, Numbered and the parts of a placeholder.
 use Prim.Native.Nat.{ℕ, _+_, _≤_, _<_}
-use mathlib.Core.Path.{_≡_, refl, sym, subst}
+use mathlib.Core.Path.{_≡_, sym, subst}
 use mathlib.Core.List.{List, [], _∷_, _++_}
 use native.Mathlib.Omega.{arith}
 use borrow.Author.Tests.{ltb-true, ltb-false}
@@ -10,7 +10,7 @@ use Rattle.utf8.specs.ChoiceLaws.{pick-elim}
 use Rattle.frame.specs.declared.Frame.{Frame}
 use Rattle.frame.specs.declared.Mode.{Mode}
 use Rattle.frame.specs.declared.TextPlace.{TextPlace}
-use Rattle.scan.specs.Characters.{consumed, spacesPast}
+use Rattle.scan.specs.Characters.{spacesPast}
 use Rattle.scan.specs.Words.{numberRead}
 use Rattle.scan.specs.Counts.{numberCount, nameCount, countAfter, countRead}
 use Rattle.scan.specs.declared.CountRead.{CountRead}
@@ -21,7 +21,6 @@ use Rattle.placeholder.specs.Format.{formatRead}
 use Rattle.placeholder.specs.Specs.{afterColon, specRead}
 use Rattle.placeholder.specs.Arguments.{resolved, argumentRead}
 use Rattle.placeholder.specs.BoundLaws.{spec-next}
-use Rattle.placeholder.specs.declared.between.ArgumentRead.{ArgumentRead}
 use Rattle.placeholder.specs.declared.format.PrecisionRead.{PrecisionRead}
 use Rattle.placeholder.specs.declared.format.SpecRead.{SpecRead}
 use Rattle.placeholder.specs.declared.format.WidthRead.{WidthRead}

@@ -1,6 +1,6 @@
 -- Kind 1 is a lone `}`'s alone: it is recorded where one is among the faults, and no flaw, gap or hint of a placeholder is of kind 1.
 -- Rests on the order of records.
-use mathlib.Core.Path.{_≡_, refl, sym}
+use mathlib.Core.Path.{_≡_, refl}
 use mathlib.Core.Logic.{_⊎_, inl, inr}
 use mathlib.Core.List.{List, [], _∷_, _++_}
 use mathlib.Core.Bool.{false}

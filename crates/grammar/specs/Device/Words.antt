@@ -7,7 +7,7 @@ use Prim.Native.Nat.{ℕ, _+_, _-_, _*_}
 use native.Mathlib.Nat.{add-assoc}
 use native.Mathlib.Omega.{arith}
 use borrow.Author.Tests.{eq-eqb, ne-eqb, leb-true, leb-false, lt-ltb, le-ltb}
-use lib.Dec.{eqb, leb, ltb}
+use lib.Dec.{eqb, leb}
 use Rattle.utf8.specs.Choice.{pick}
 use Rattle.utf8.specs.ChoiceLaws.{both-false}
 use Rattle.utf8.specs.Chars.{charsFrom, takeWhile, runEnd}

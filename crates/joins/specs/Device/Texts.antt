@@ -1,7 +1,7 @@
 -- Two texts without errors, joined: no error, and the pieces of both, met. Rests on Bytes, Moves, Meets and grammar's Readings.
 use mathlib.Core.Path.{_≡_, ap, _∙_}
 use mathlib.Core.List.{List, [], _++_}
-use Prim.Native.Nat.{ℕ, _+_}
+use Prim.Native.Nat.{ℕ}
 use lib.ListN.{length}
 use Rattle.utf8.specs.Table37.{WellFormed}
 use Rattle.frame.specs.declared.Frame.{Frame}

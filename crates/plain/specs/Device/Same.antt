@@ -2,7 +2,7 @@
 use mathlib.Core.Path.{_≡_, refl, ap, sym, _∙_}
 use mathlib.Core.Bool.{Bool, true, false}
 use mathlib.Core.List.{List, [], _∷_, _++_}
-use Prim.Native.Nat.{ℕ, _+_}
+use Prim.Native.Nat.{ℕ}
 use Rattle.frame.specs.declared.Mode.{Mode}
 use Rattle.scan.specs.declared.Numeral.{Numeral}
 use Rattle.grammar.specs.Grammar.{value, Number, Position, next, number, word, Lead, unaligned, aligned, filled, Signed, unsigned, plus, minus, Width, implied, fixed, byArgument, byName, Precision, undotted, star, dot, Kind, untyped, debug, hexDebug, hex, typed, FormatSpec, formatSpec, unmodified, modifier, freeText, Tail, bare, colon, Element, run, opened, closed, placeholder}

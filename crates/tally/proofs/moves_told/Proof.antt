@@ -1,7 +1,6 @@
 -- `tally::moves_told` meets its contract: at a lone `}` the characters before it are counted, at the end they are all of the text's.
 use borrow.Author.Needs.{needs}
 use borrow.Author.Tests.{lt-ltb, le-ltb}
-use Prim.Native.Nat.{_≤_}
 use mathlib.Core.Path.{_≡_, refl, sym, ap, _∙_}
 use native.Mathlib.Omega.{arith}
 use lib.ListN.{length}

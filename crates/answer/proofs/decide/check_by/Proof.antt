@@ -1,12 +1,11 @@
 -- `answer::decide::check_by` meets its contract: what is known, with the characters counted; or the check.
 use borrow.Author.Needs.{needs}
-use mathlib.Core.Path.{_≡_, refl, _∙_, ap}
+use mathlib.Core.Path.{refl, _∙_, ap}
 use native.Mathlib.Omega.{arith}
 use lib.ListN.{length}
 use denote.Ref.{now}
 use Rattle.utf8.specs.Choice.{pick}
 use Rattle.utf8.specs.Chars.{charsFrom}
-use Rattle.utf8.specs.Utf8.{validPrefix}
 use Rattle.utf8.specs.Utf8Laws.{valid-within}
 use Rattle.utf8.specs.CountLaws.{all-before, all-passed}
 use Rattle.answer.specs.Asking.{validBy}

@@ -3,7 +3,6 @@
 use borrow.Author.Needs.{needs}
 use borrow.Author.Tests.{lt-ltb, le-ltb, not-true, not-false}
 use Rattle.utf8.specs.Choice.{pick}
-use Rattle.closing.specs.Recovery.{recoverRead}
 use Rattle.closing.specs.Recovering.{recovering, recover-table}
 use Rattle.closing.proofs.recover.recover.Statement.{statement}
 use Rattle.closing.proofs.recover.recover.Tie as tie
