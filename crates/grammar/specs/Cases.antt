@@ -28,7 +28,7 @@ use Rattle.placeholder.specs.declared.Spec.{Spec}
 use Rattle.reading.specs.declared.ErrorRecord.{ErrorRecord}
 use Rattle.reading.specs.declared.MaybeRange.{MaybeRange}
 use Rattle.reading.specs.declared.Piece.{Piece}
-use Rattle.grammar.specs.Grammar.{Plain, NextBrace, Position, next, number, word, Alignment, left, right, center, alignChar, Lead, unaligned, filled, unsigned, Width, implied, fixed, byArgument, byName, Precision, undotted, star, dot, lower, Kind, untyped, hexDebug, typed, formatSpec, modifier, freeText, Tail, bare, colon, Element, run, opened, closed, placeholder, utf8, Reading}
+use Rattle.grammar.specs.Grammar.{Plain, NextBrace, Position, next, number, word, Alignment, left, right, center, alignChar, Lead, unaligned, filled, unsigned, Width, implied, fixed, byArgument, byName, Precision, undotted, star, dot, lower, Typing, untyped, hexDebug, typed, formatSpec, modifier, freeText, Tail, bare, colon, Element, run, opened, closed, placeholder, utf8, Reading}
 use Rattle.grammar.specs.Pieces.{wide, size, bytes, formatAt, argumentAt, piecesOf}
 use Rattle.grammar.specs.Cover.{Tiles, Lone, Covered}
 
@@ -37,8 +37,8 @@ abbrev pub held : Position → List ℕ → Tail → Element
 held p w y = placeholder (record { position = p; space = w; tail = y })
 
 -- a Format spec of a lead, the flag `0`, a width, a precision and a type
-abbrev pub format : Lead → Bool → Width → Precision → Kind → Tail
-format l z w p k = colon (formatSpec (record { lead = l; sign = unsigned; alternate = false; zero = z; width = w; precision = p; kind = k })) []
+abbrev pub format : Lead → Bool → Width → Precision → Typing → Tail
+format l z w p k = colon (formatSpec (record { lead = l; sign = unsigned; alternate = false; zero = z; width = w; precision = p; typing = k })) []
 
 -- READINGS
 -- `{65535}` is a number
@@ -89,7 +89,7 @@ dollar =
               choice2$ = λ v e. refl;
               width = record { first = omega arith; others = tt; small = omega arith };
               precision = tt;
-              kind = tt;
+              typing = tt;
             },
             tt,
           );
@@ -124,7 +124,7 @@ no-word : ¬ Reading Mode.Format (0x7B ∷ 0x5F ∷ 0x7D ∷ []) (held (word 0x5
 no-word r = r .fits .0 .position .named refl
 
 no-type : ¬ Reading Mode.Format (0x7B ∷ 0x3A ∷ 0x78 ∷ 0x79 ∷ 0x7D ∷ []) (held next [] (format unaligned false implied undotted (typed 0x78 (0x79 ∷ []))) ∷ [])
-no-type r = r .fits .0 .tail .0 .kind .1 lower refl
+no-type r = r .fits .0 .tail .0 .typing .1 lower refl
 
 -- choice 1: `{:}>}}` is not `{:}`, `>` and `}}`, for its `}` is a fill
 not-closed : ¬ Reading Mode.Format (0x7B ∷ 0x3A ∷ 0x7D ∷ 0x3E ∷ 0x7D ∷ 0x7D ∷ []) (held next [] (format unaligned false implied undotted untyped) ∷ run 0x3E [] ∷ closed [] ∷ [])

@@ -22,7 +22,7 @@ use Rattle.grammar.specs.Device.Runs.{takeW, dropW}
 use Rattle.grammar.specs.Device.Unique.{sound, none-reads}
 use Rattle.grammar.specs.Device.Stands.{stands-one}
 use Rattle.grammar.specs.Device.Bytes.{stands-in}
-use Rattle.grammar.specs.Device.Parser.{none, some, okNumber, okWord, positionOf, hashWord, rawAt, side, alignOf, leadOf, signOf, hashOf, zeroOf, numberOf, nameOf, widthOf, dotOf, precisionOf, okDebug, hexOf, typedOf, kindOf, formatOf, modifierOf, specOf, tailOf, insideOf, closeOf, insideStep, openStep, closeStep, step, more, parse}
+use Rattle.grammar.specs.Device.Parser.{none, some, okNumber, okWord, positionOf, hashWord, rawAt, side, alignOf, leadOf, signOf, hashOf, zeroOf, numberOf, nameOf, widthOf, dotOf, precisionOf, okDebug, hexOf, typedOf, typingOf, formatOf, modifierOf, specOf, tailOf, insideOf, closeOf, insideStep, openStep, closeStep, step, more, parse}
 
 -- elements are a reading of a text, by computing
 has : (m : Mode) (t cs : List ℕ) (es : List Element) → utf8 cs ≡ t → parse m (suc (length cs)) cs ≡ some es → Reading m t es
@@ -45,7 +45,7 @@ pub readings :
     × Reading Mode.Format (0x7B ∷ 0x61 ∷ 0x3A ∷ 0x3E ∷ 0x37 ∷ 0x2E ∷ 0x62 ∷ 0x24 ∷ 0x78 ∷ 0x3F ∷ 0x7D ∷ []) (held (word 0x61 []) [] (format (aligned right) false (fixed 0x37 []) (dot (byName 0x62 [])) (hexDebug lower)) ∷ [])
     × Reading Mode.InlineAsm (0x7B ∷ 0x30 ∷ 0x3A ∷ 0x62 ∷ 0x20 ∷ 0x7D ∷ []) (held (number 0x30 []) [] (colon (modifier 0x62 []) (0x20 ∷ [])) ∷ [])
     × Reading Mode.Diagnostic (0x7B ∷ 0x3A ∷ 0x20 ∷ 0x62 ∷ 0x20 ∷ 0x7D ∷ []) (held next [] (colon (freeText (0x20 ∷ 0x62 ∷ 0x20 ∷ [])) []) ∷ [])
-unfolding utf8 encode validPrefix valid sequenceAt sequenceOf isSpace isStart isContinue space start continue member within pick isPlain isDigit takeW dropW okNumber okWord positionOf hashWord rawAt side alignOf leadOf signOf hashOf zeroOf numberOf nameOf widthOf dotOf precisionOf okDebug hexOf typedOf kindOf formatOf modifierOf specOf tailOf insideOf closeOf insideStep openStep closeStep step more parse
+unfolding utf8 encode validPrefix valid sequenceAt sequenceOf isSpace isStart isContinue space start continue member within pick isPlain isDigit takeW dropW okNumber okWord positionOf hashWord rawAt side alignOf leadOf signOf hashOf zeroOf numberOf nameOf widthOf dotOf precisionOf okDebug hexOf typedOf typingOf formatOf modifierOf specOf tailOf insideOf closeOf insideStep openStep closeStep step more parse
 readings = (
   has _ _ (0x7B ∷ 0x7B ∷ 0x61 ∷ []) _ refl refl,
   has _ _ (0x7B ∷ 0x3A ∷ 0x2E ∷ 0x2A ∷ 0x7D ∷ 0x7B ∷ 0x7D ∷ []) _ refl refl,
@@ -67,7 +67,7 @@ pub no-readings :
     × ((es : List Element) → ¬ Reading Mode.Format (0x7B ∷ 0x3A ∷ 0x7D ∷ 0x3C ∷ []) es)
     × ((es : List Element) → ¬ Reading Mode.Format (0x7B ∷ 0x61 ∷ 0x2E ∷ 0x62 ∷ 0x7D ∷ []) es)
     × ((es : List Element) → ¬ Reading Mode.Format (0x7B ∷ 0x72 ∷ 0x23 ∷ 0x61 ∷ 0x7D ∷ []) es)
-unfolding utf8 encode validPrefix valid sequenceAt sequenceOf isSpace isStart isContinue space start continue member within pick isPlain isDigit takeW dropW okNumber okWord positionOf hashWord rawAt side alignOf leadOf signOf hashOf zeroOf numberOf nameOf widthOf dotOf precisionOf okDebug hexOf typedOf kindOf formatOf modifierOf specOf tailOf insideOf closeOf insideStep openStep closeStep step more parse
+unfolding utf8 encode validPrefix valid sequenceAt sequenceOf isSpace isStart isContinue space start continue member within pick isPlain isDigit takeW dropW okNumber okWord positionOf hashWord rawAt side alignOf leadOf signOf hashOf zeroOf numberOf nameOf widthOf dotOf precisionOf okDebug hexOf typedOf typingOf formatOf modifierOf specOf tailOf insideOf closeOf insideStep openStep closeStep step more parse
 no-readings = (
   lacks _ _ (0x7D ∷ []) refl refl refl,
   lacks _ _ (0x7B ∷ 0x36 ∷ 0x35 ∷ 0x35 ∷ 0x33 ∷ 0x36 ∷ 0x7D ∷ []) refl refl refl,

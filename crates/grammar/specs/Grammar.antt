@@ -154,25 +154,25 @@ letterChar lower = code "x"
 letterChar upper = code "X"
 
 -- (R4.10)
-pub data Kind : Type 0 where
-  untyped : Kind
-  debug : Kind
-  hexDebug hex : Letter → Kind
-  typed : ℕ → List ℕ → Kind
+pub data Typing : Type 0 where
+  untyped : Typing
+  debug : Typing
+  hexDebug hex : Letter → Typing
+  typed : ℕ → List ℕ → Typing
 
-abbrev pub writtenKind : Kind → List ℕ → List ℕ
-writtenKind untyped t = t
-writtenKind debug t = code "?" ∷ t
-writtenKind (hexDebug x) t = letterChar x ∷ code "?" ∷ t
-writtenKind (hex x) t = letterChar x ∷ t
-writtenKind (typed c r) t = c ∷ (r ++ t)
+abbrev pub writtenTyping : Typing → List ℕ → List ℕ
+writtenTyping untyped t = t
+writtenTyping debug t = code "?" ∷ t
+writtenTyping (hexDebug x) t = letterChar x ∷ code "?" ∷ t
+writtenTyping (hex x) t = letterChar x ∷ t
+writtenTyping (typed c r) t = c ∷ (r ++ t)
 
-abbrev pub FitsKind : Kind → Type 0
-FitsKind untyped = Unit {0}
-FitsKind debug = Unit {0}
-FitsKind (hexDebug x) = Unit {0}
-FitsKind (hex x) = Unit {0}
-FitsKind (typed c r) = Word c r × ((x : Letter) → c ≢ letterChar x)
+abbrev pub FitsTyping : Typing → Type 0
+FitsTyping untyped = Unit {0}
+FitsTyping debug = Unit {0}
+FitsTyping (hexDebug x) = Unit {0}
+FitsTyping (hex x) = Unit {0}
+FitsTyping (typed c r) = Word c r × ((x : Letter) → c ≢ letterChar x)
 
 -- FORMAT SPEC: "each part optional and in this order: fill and align; sign; `#`; `0`; width; `.` with precision; type" (R4.6)
 pub record FormatSpec : Type 0 where
@@ -182,11 +182,11 @@ pub record FormatSpec : Type 0 where
   pub zero : Bool
   pub width : Width
   pub precision : Precision
-  pub kind : Kind
+  pub typing : Typing
 
 -- from the width on
 abbrev pub fromWidth : FormatSpec → List ℕ → List ℕ
-fromWidth f t = writtenWidth (f .width) (writtenPrecision (f .precision) (writtenKind (f .kind) t))
+fromWidth f t = writtenWidth (f .width) (writtenPrecision (f .precision) (writtenTyping (f .typing) t))
 
 -- from the flag `0`'s place on
 abbrev pub fromZero : FormatSpec → List ℕ → List ℕ
@@ -204,7 +204,7 @@ pub record FitsFormat (f : FormatSpec) (t : List ℕ) : Type 0 where
   pub choice2$ : (v : List ℕ) → fromZero f t ≡ code "0" ∷ code "$" ∷ v → f .width ≡ byArgument (code "0") []
   pub width : FitsWidth (f .width)
   pub precision : FitsPrecision (f .precision)
-  pub kind : FitsKind (f .kind)
+  pub typing : FitsTyping (f .typing)
 
 -- THE SPEC OF EACH MODE: "InlineAsm spec: a word, or nothing. Diagnostic spec: any text without braces"
 pub data SpecText : Type 0 where

@@ -20,7 +20,7 @@ use Rattle.placeholder.specs.declared.MaybeSpan.{MaybeSpan}
 use Rattle.placeholder.specs.declared.Spec.{Spec}
 use Rattle.placeholder.specs.declared.Argument.{Argument}
 use Rattle.reading.specs.declared.Piece.{Piece}
-use Rattle.grammar.specs.Grammar.{value, Position, next, number, word, Alignment, left, right, center, Lead, unaligned, aligned, filled, Signed, unsigned, plus, minus, Width, implied, fixed, byArgument, byName, Precision, undotted, star, dot, Letter, lower, upper, Kind, untyped, debug, hexDebug, hex, typed, FormatSpec, SpecText, formatSpec, unmodified, modifier, freeText, Tail, bare, colon, Inside, Element, run, opened, closed, placeholder}
+use Rattle.grammar.specs.Grammar.{value, Position, next, number, word, Alignment, left, right, center, Lead, unaligned, aligned, filled, Signed, unsigned, plus, minus, Width, implied, fixed, byArgument, byName, Precision, undotted, star, dot, Letter, lower, upper, Typing, untyped, debug, hexDebug, hex, typed, FormatSpec, SpecText, formatSpec, unmodified, modifier, freeText, Tail, bare, colon, Inside, Element, run, opened, closed, placeholder}
 use Rattle.grammar.specs.Grammar.{writtenPosition, writtenLead, writtenSign, writtenFlag, writtenWidth, writtenPrecision, written}
 
 -- BYTES
@@ -115,7 +115,7 @@ signOf plus = Sign.Plus
 signOf minus = Sign.Minus
 
 -- a type's text, which for `x?` and `X?` is the `?`, and which of the two letters stands before that
-abbrev pub typeText : ℕ → Kind → TextRange
+abbrev pub typeText : ℕ → Typing → TextRange
 typeText p untyped = bytes p p
 typeText p debug = bytes p (p + 1)
 typeText p (hexDebug x) = bytes (p + 1) (p + 2)
@@ -126,7 +126,7 @@ abbrev pub letterOf : Letter → Hex
 letterOf lower = Hex.Lower
 letterOf upper = Hex.Upper
 
-abbrev pub hexOf : Kind → Hex
+abbrev pub hexOf : Typing → Hex
 hexOf untyped = Hex.Absent
 hexOf debug = Hex.Absent
 hexOf (hexDebug x) = letterOf x
@@ -193,7 +193,7 @@ module _ (q : ℕ) where
   precisionSpan p (dot w) = present p (p + 1 + size (writtenWidth w []))
 
   -- a type that is a word has its span, and no other has one
-  abbrev pub typeSpan : ℕ → Kind → MaybeSpan
+  abbrev pub typeSpan : ℕ → Typing → MaybeSpan
   typeSpan p untyped = MaybeSpan.Absent
   typeSpan p debug = MaybeSpan.Absent
   typeSpan p (hexDebug x) = MaybeSpan.Absent
@@ -209,13 +209,13 @@ module _ (q : ℕ) where
         sign = signOf (f .sign);
         alternate = f .alternate;
         zero = f .zero;
-        hex = hexOf (f .kind);
+        hex = hexOf (f .typing);
         width = countOf (widthAt p f) (f .width);
         widthspan = widthSpan (widthAt p f) (f .width);
         precision = precisionOf (precisionAt p f) n (f .precision);
         precisionspan = precisionSpan (precisionAt p f) (f .precision);
-        typetext = typeText (typeAt p f) (f .kind);
-        typespan = typeSpan (typeAt p f) (f .kind);
+        typetext = typeText (typeAt p f) (f .typing);
+        typespan = typeSpan (typeAt p f) (f .typing);
       }
 
   -- THE SPEC of each mode, its colon at byte p; a Diagnostic one's span takes in the colon

@@ -91,12 +91,12 @@ abbrev pub ender : ℕ → Bool
 ender c = eqb c 0x7D || isSpace c
 
 -- from the type on,
-abbrev pub kindFirst : ℕ → Bool
-kindFirst c = eqb c 0x3F || (isStart c || ender c)
+abbrev pub typingFirst : ℕ → Bool
+typingFirst c = eqb c 0x3F || (isStart c || ender c)
 
 -- from the precision on,
 abbrev pub precisionFirst : ℕ → Bool
-precisionFirst c = eqb c 0x2E || kindFirst c
+precisionFirst c = eqb c 0x2E || typingFirst c
 
 -- from the flag `0` or the width on,
 abbrev pub widthFirst : ℕ → Bool
@@ -140,16 +140,16 @@ unfolding isDigit within
 ender-digit c h = either-case (eqb c 0x7D) (isSpace c) h (λ e. rw (eqb-true c 0x7D e)) (λ e. space-digit c e)
 
 -- neither a precision nor a type begins with a digit
-pub kind-digit : (c : ℕ) → kindFirst c ≡ true → isDigit c ≡ false
+pub typing-digit : (c : ℕ) → typingFirst c ≡ true → isDigit c ≡ false
 unfolding isDigit within
-kind-digit c h =
+typing-digit c h =
     either-case (eqb c 0x3F) (isStart c || ender c) h
     (λ e. rw (eqb-true c 0x3F e))
     (λ k. either-case (isStart c) (ender c) k (λ e. start-digit c e) (λ e. ender-digit c e))
 
 pub precision-digit : (c : ℕ) → precisionFirst c ≡ true → isDigit c ≡ false
 unfolding isDigit within
-precision-digit c h = either-case (eqb c 0x2E) (kindFirst c) h (λ e. rw (eqb-true c 0x2E e)) (λ e. kind-digit c e)
+precision-digit c h = either-case (eqb c 0x2E) (typingFirst c) h (λ e. rw (eqb-true c 0x2E e)) (λ e. typing-digit c e)
 
 -- what follows a place is no continuation, start or digit
 pub space-first-continue : (c : ℕ) → spaceFirst c ≡ true → isContinue c ≡ false
@@ -179,20 +179,20 @@ module _ (k : ℕ) (m : T (among marks k)) where
   ender-off : eqb k 0x7D ≡ false → ender k ≡ false
   ender-off p = cc (mark-no-space k m)
 
-  kind-off : eqb k 0x3F ≡ false → eqb k 0x7D ≡ false → kindFirst k ≡ false
-  kind-off q p = cc (mark-no-start k m, ender-off p)
+  typing-off : eqb k 0x3F ≡ false → eqb k 0x7D ≡ false → typingFirst k ≡ false
+  typing-off q p = cc (mark-no-start k m, ender-off p)
 
 -- no such mark stands where a class does
 pub ender-mark : (k : ℕ) → T (among marks k) → eqb k 0x7D ≡ false → (c : ℕ) → ender c ≡ true → eqb c k ≡ false
 ender-mark k m p c h = differs ender c k h (ender-off k m p)
 
-pub kind-mark : (k : ℕ) → T (among marks k) → eqb k 0x3F ≡ false → eqb k 0x7D ≡ false → (c : ℕ) → kindFirst c ≡ true → eqb c k ≡ false
-kind-mark k m q p c h = differs kindFirst c k h (kind-off k m q p)
+pub typing-mark : (k : ℕ) → T (among marks k) → eqb k 0x3F ≡ false → eqb k 0x7D ≡ false → (c : ℕ) → typingFirst c ≡ true → eqb c k ≡ false
+typing-mark k m q p c h = differs typingFirst c k h (typing-off k m q p)
 
 pub width-mark : (k : ℕ) → T (among marks k) → isDigit k ≡ false → eqb k 0x2E ≡ false → eqb k 0x3F ≡ false → eqb k 0x7D ≡ false → (c : ℕ) →
     widthFirst c ≡ true → eqb c k ≡ false
-width-mark k m d r q p c h = differs widthFirst c k h (cc (kind-off k m q p))
+width-mark k m d r q p c h = differs widthFirst c k h (cc (typing-off k m q p))
 
 pub hash-mark : (k : ℕ) → T (among marks k) → isDigit k ≡ false → eqb k 0x23 ≡ false → eqb k 0x2E ≡ false → eqb k 0x3F ≡ false → eqb k 0x7D ≡ false →
     (c : ℕ) → hashFirst c ≡ true → eqb c k ≡ false
-hash-mark k m d x r q p c h = differs hashFirst c k h (cc (kind-off k m q p))
+hash-mark k m d x r q p c h = differs hashFirst c k h (cc (typing-off k m q p))

@@ -15,11 +15,11 @@ use Rattle.letters.specs.Table.{member}
 use Rattle.scan.specs.Characters.{isPlain}
 use Rattle.scan.specs.Words.{isDigit}
 use Rattle.frame.specs.declared.Mode.{Mode}
-use Rattle.grammar.specs.Grammar.{All, Space, Brace, Plain, Number, Word, value, Position, next, number, word, Alignment, alignChar, Lead, unaligned, aligned, filled, Signed, unsigned, plus, minus, Width, implied, fixed, byArgument, byName, Precision, undotted, star, dot, Letter, lower, upper, letterChar, Kind, untyped, debug, hexDebug, hex, typed, FormatSpec, SpecText, formatSpec, unmodified, modifier, freeText, Tail, bare, colon, Inside, Element, run, opened, closed, placeholder}
-use Rattle.grammar.specs.Grammar.{writtenPosition, FitsPosition, writtenLead, writtenSign, writtenFlag, writtenWidth, FitsWidth, writtenPrecision, FitsPrecision, writtenKind, FitsKind, fromWidth, fromZero, writtenFormat, FitsFormat, writtenSpec, FitsSpec, writtenTail, FitsTail, writtenInside, FitsInside, written, Fits}
+use Rattle.grammar.specs.Grammar.{All, Space, Brace, Plain, Number, Word, value, Position, next, number, word, Alignment, alignChar, Lead, unaligned, aligned, filled, Signed, unsigned, plus, minus, Width, implied, fixed, byArgument, byName, Precision, undotted, star, dot, Letter, lower, upper, letterChar, Typing, untyped, debug, hexDebug, hex, typed, FormatSpec, SpecText, formatSpec, unmodified, modifier, freeText, Tail, bare, colon, Inside, Element, run, opened, closed, placeholder}
+use Rattle.grammar.specs.Grammar.{writtenPosition, FitsPosition, writtenLead, writtenSign, writtenFlag, writtenWidth, FitsWidth, writtenPrecision, FitsPrecision, writtenTyping, FitsTyping, fromWidth, fromZero, writtenFormat, FitsFormat, writtenSpec, FitsSpec, writtenTail, FitsTail, writtenInside, FitsInside, written, Fits}
 use Rattle.grammar.specs.Device.Runs.{caseB, first, Passes, Stops, Begins, begins-stops, begins-map, take-run, drop-run, differs, never, and-left, and-right}
-use Rattle.grammar.specs.Device.Classes.{of-digit, of-digits, of-brace, of-plain, of-plains, of-next-brace, start-digit, or-left, or-right, ender, kindFirst, precisionFirst, widthFirst, hashFirst, signFirst, tailFirst, spaceFirst, ender-continue, ender-start, ender-digit, precision-digit, space-first-continue, space-first-start, space-first-digit, ender-mark, kind-mark, width-mark, hash-mark}
-use Rattle.grammar.specs.Device.Parser.{got, okNumber, okWord, positionOf, isSide, side, alignOf, leadOf, signOf, hashOf, zeroOf, numberOf, nameOf, widthOf, dotOf, precisionOf, okDebug, hexOf, typedOf, kindOf, t1, t2, t3, t4, t5, t6, t7, formatOf, modifierOf, specOf, tailOf, pastPosition, insideOf, piece, hashWord, rawAt, closeOf, insideStep, openStep, closeStep, step}
+use Rattle.grammar.specs.Device.Classes.{of-digit, of-digits, of-brace, of-plain, of-plains, of-next-brace, start-digit, or-left, or-right, ender, typingFirst, precisionFirst, widthFirst, hashFirst, signFirst, tailFirst, spaceFirst, ender-continue, ender-start, ender-digit, precision-digit, space-first-continue, space-first-start, space-first-digit, ender-mark, typing-mark, width-mark, hash-mark}
+use Rattle.grammar.specs.Device.Parser.{got, okNumber, okWord, positionOf, isSide, side, alignOf, leadOf, signOf, hashOf, zeroOf, numberOf, nameOf, widthOf, dotOf, precisionOf, okDebug, hexOf, typedOf, typingOf, t1, t2, t3, t4, t5, t6, t7, formatOf, modifierOf, specOf, tailOf, pastPosition, insideOf, piece, hashWord, rawAt, closeOf, insideStep, openStep, closeStep, step}
 use Rattle.grammar.specs.Device.Made.{side-char, char-side, side-of}
 
 -- NUMBERS AND WORDS
@@ -58,7 +58,7 @@ ender-letter : (x : Letter) (c : ℕ) → ender c ≡ true → eqb c (letterChar
 ender-letter lower c e = differs ender c 0x78 e (start-no-space 0x78 (letter-start lower))
 ender-letter upper c e = differs ender c 0x58 e (start-no-space 0x58 (letter-start upper))
 
-letter-first : (x : Letter) → kindFirst (letterChar x) ≡ true
+letter-first : (x : Letter) → typingFirst (letterChar x) ≡ true
 letter-first lower = or-left (isStart 0x78) (ender 0x78) (letter-start lower)
 letter-first upper = or-left (isStart 0x58) (ender 0x58) (letter-start upper)
 
@@ -66,8 +66,8 @@ letter-first upper = or-left (isStart 0x58) (ender 0x58) (letter-start upper)
 start-mark : (c k : ℕ) → isStart c ≡ true → isStart k ≡ false → eqb c k ≡ false
 start-mark c k h n = differs isStart c k h n
 
-typed-given : (c : ℕ) (r t : List ℕ) → FitsKind (typed c r) → Begins ender t → kindOf (c ∷ (r ++ t)) ≡ got (typed c r) t true
-unfolding kindOf typedOf
+typed-given : (c : ℕ) (r t : List ℕ) → FitsTyping (typed c r) → Begins ender t → typingOf (c ∷ (r ++ t)) ≡ got (typed c r) t true
+unfolding typingOf typedOf
 typed-given c r t f e =
     let w = f .0 in
     let n = no-continue t e in
@@ -87,26 +87,26 @@ unfolding hexOf
 hex-given x [] e = absurd e
 hex-given x (d ∷ t) e = cc (ender-mark 0x3F tt refl d e)
 
-pub kind-given : (k : Kind) (t : List ℕ) → FitsKind k → Begins ender t → kindOf (writtenKind k t) ≡ got k t true
-unfolding kindOf typedOf hexOf okDebug
-kind-given untyped [] f e = absurd e
-kind-given untyped (c ∷ t) f e =
+pub typing-given : (k : Typing) (t : List ℕ) → FitsTyping k → Begins ender t → typingOf (writtenTyping k t) ≡ got k t true
+unfolding typingOf typedOf hexOf okDebug
+typing-given untyped [] f e = absurd e
+typing-given untyped (c ∷ t) f e =
     cc (ender-letter lower c e, ender-letter upper c e, ender-mark 0x3F tt refl c e, no-start (c ∷ t) e)
-kind-given debug [] f e = absurd e
-kind-given debug (c ∷ t) f e = cc (ender-mark 0x23 tt refl c e, ender-letter lower c e, ender-letter upper c e)
-kind-given (hexDebug lower) t f e = refl
-kind-given (hexDebug upper) t f e = refl
-kind-given (hex lower) t f e = hex-given lower t e
-kind-given (hex upper) t f e = hex-given upper t e
-kind-given (typed c r) t f e = typed-given c r t f e
+typing-given debug [] f e = absurd e
+typing-given debug (c ∷ t) f e = cc (ender-mark 0x23 tt refl c e, ender-letter lower c e, ender-letter upper c e)
+typing-given (hexDebug lower) t f e = refl
+typing-given (hexDebug upper) t f e = refl
+typing-given (hex lower) t f e = hex-given lower t e
+typing-given (hex upper) t f e = hex-given upper t e
+typing-given (typed c r) t f e = typed-given c r t f e
 
-pub kind-begins : (k : Kind) (t : List ℕ) → FitsKind k → Begins ender t → Begins kindFirst (writtenKind k t)
-kind-begins untyped [] f e = absurd e
-kind-begins untyped (c ∷ t) f e = or-right (eqb c 0x3F) (isStart c || ender c) (or-right (isStart c) (ender c) e)
-kind-begins debug t f e = refl
-kind-begins (hexDebug x) t f e = letter-first x
-kind-begins (hex x) t f e = letter-first x
-kind-begins (typed c r) t f e = or-right (eqb c 0x3F) (isStart c || ender c) (or-left (isStart c) (ender c) (f .0 .first))
+pub typing-begins : (k : Typing) (t : List ℕ) → FitsTyping k → Begins ender t → Begins typingFirst (writtenTyping k t)
+typing-begins untyped [] f e = absurd e
+typing-begins untyped (c ∷ t) f e = or-right (eqb c 0x3F) (isStart c || ender c) (or-right (isStart c) (ender c) e)
+typing-begins debug t f e = refl
+typing-begins (hexDebug x) t f e = letter-first x
+typing-begins (hex x) t f e = letter-first x
+typing-begins (typed c r) t f e = or-right (eqb c 0x3F) (isStart c || ender c) (or-left (isStart c) (ender c) (f .0 .first))
 
 -- WIDTH AND PRECISION: where a word has no `$` after it, no width is taken
 name-none : (c : ℕ) (r t u : List ℕ) → Stops (λ d. eqb d 0x24) t → okWord c r ≡ true → nameOf c r t u ≡ got implied u true
@@ -129,14 +129,14 @@ letter-ok upper = refl
 no-dollar : (t : List ℕ) → Begins ender t → Stops (λ d. eqb d 0x24) t
 no-dollar t e = begins-stops ender (λ d. eqb d 0x24) (ender-mark 0x24 tt refl) t e
 
-kind-none : (k : Kind) (t : List ℕ) → FitsKind k → Begins ender t → widthOf (writtenKind k t) ≡ got implied (writtenKind k t) true
+typing-none : (k : Typing) (t : List ℕ) → FitsTyping k → Begins ender t → widthOf (writtenTyping k t) ≡ got implied (writtenTyping k t) true
 unfolding widthOf isDigit within
-kind-none untyped [] f e = absurd e
-kind-none untyped (c ∷ t) f e = cc (no-digit (c ∷ t) e, no-start (c ∷ t) e)
-kind-none debug t f e = cc (mark-no-start 0x3F tt)
-kind-none (hexDebug x) t f e = word-none (letterChar x) [] (0x3F ∷ t) (letter-start x) tt (mark-no-continue 0x3F tt) refl (letter-ok x)
-kind-none (hex x) t f e = word-none (letterChar x) [] t (letter-start x) tt (no-continue t e) (no-dollar t e) (letter-ok x)
-kind-none (typed c r) t f e = word-none c r t (f .0 .first) (f .0 .others) (no-continue t e) (no-dollar t e) (word-ok c r (f .0))
+typing-none untyped [] f e = absurd e
+typing-none untyped (c ∷ t) f e = cc (no-digit (c ∷ t) e, no-start (c ∷ t) e)
+typing-none debug t f e = cc (mark-no-start 0x3F tt)
+typing-none (hexDebug x) t f e = word-none (letterChar x) [] (0x3F ∷ t) (letter-start x) tt (mark-no-continue 0x3F tt) refl (letter-ok x)
+typing-none (hex x) t f e = word-none (letterChar x) [] t (letter-start x) tt (no-continue t e) (no-dollar t e) (letter-ok x)
+typing-none (typed c r) t f e = word-none c r t (f .0 .first) (f .0 .others) (no-continue t e) (no-dollar t e) (word-ok c r (f .0))
 
 -- nor at a precision
 precision-none : (p : Precision) (u : List ℕ) → widthOf u ≡ got implied u true →
@@ -172,7 +172,7 @@ width-begins (fixed d ds) u f e = or-left (isDigit d) (precisionFirst d) (of-dig
 width-begins (byArgument d ds) u f e = or-left (isDigit d) (precisionFirst d) (of-digit d (f .first))
 width-begins (byName c r) u f e =
     or-right (isDigit c) (precisionFirst c)
-    (or-right (eqb c 0x2E) (kindFirst c) (or-right (eqb c 0x3F) (isStart c || ender c) (or-left (isStart c) (ender c) (f .first))))
+    (or-right (eqb c 0x2E) (typingFirst c) (or-right (eqb c 0x3F) (isStart c || ender c) (or-left (isStart c) (ender c) (f .first))))
 
 -- a precision
 dot-given : (v : List ℕ) → Begins widthFirst v → dotOf v ≡ got (dot (widthOf v .val)) (widthOf v .rest) (widthOf v .ok)
@@ -180,22 +180,22 @@ unfolding dotOf isDigit within
 dot-given [] e = absurd e
 dot-given (c ∷ v) e = cc (width-mark 0x2A tt refl refl refl refl c e)
 
-kind-precision : (u : List ℕ) → Begins kindFirst u → Begins precisionFirst u
-kind-precision u e = begins-map kindFirst precisionFirst (λ c h. or-right (eqb c 0x2E) (kindFirst c) h) u e
+typing-precision : (u : List ℕ) → Begins typingFirst u → Begins precisionFirst u
+typing-precision u e = begins-map typingFirst precisionFirst (λ c h. or-right (eqb c 0x2E) (typingFirst c) h) u e
 
-pub precision-begins : (p : Precision) (u : List ℕ) → Begins kindFirst u → Begins precisionFirst (writtenPrecision p u)
-precision-begins undotted u e = kind-precision u e
+pub precision-begins : (p : Precision) (u : List ℕ) → Begins typingFirst u → Begins precisionFirst (writtenPrecision p u)
+precision-begins undotted u e = typing-precision u e
 precision-begins star u e = refl
 precision-begins (dot w) u e = refl
 
-precision-given : (p : Precision) (u : List ℕ) → FitsPrecision p → Begins kindFirst u → widthOf u ≡ got implied u true →
+precision-given : (p : Precision) (u : List ℕ) → FitsPrecision p → Begins typingFirst u → widthOf u ≡ got implied u true →
     precisionOf (writtenPrecision p u) ≡ got p u true
 unfolding precisionOf dotOf
 precision-given undotted [] f e i = absurd e
-precision-given undotted (c ∷ u) f e i = cc (kind-mark 0x2E tt refl refl c e)
+precision-given undotted (c ∷ u) f e i = cc (typing-mark 0x2E tt refl refl c e)
 precision-given star u f e i = refl
 precision-given (dot w) u f e i =
-    let b = kind-precision u e in
+    let b = typing-precision u e in
     cc (dot-given (writtenWidth w u) (width-begins w u f b), width-given w u f b i)
 
 -- FLAGS
@@ -282,20 +282,20 @@ lead-given (filled c a) u h e = cc (char-side a, side-of a)
 format-given : (f : FormatSpec) (t : List ℕ) → FitsFormat f t → Begins ender t → formatOf (writtenFormat f t) ≡ got f t true
 unfolding formatOf
 format-given f t h e =
-    let u6 : List ℕ = writtenKind (f .kind) t in
+    let u6 : List ℕ = writtenTyping (f .typing) t in
     let u5 : List ℕ = writtenPrecision (f .precision) u6 in
     let u4 : List ℕ = fromWidth f t in
     let u3 : List ℕ = fromZero f t in
     let u2 : List ℕ = writtenFlag 0x23 (f .alternate) u3 in
     let u1 : List ℕ = writtenSign (f .sign) u2 in
-    let b6 = kind-begins (f .kind) t (h .kind) e in
-    let n6 = kind-none (f .kind) t (h .kind) e in
+    let b6 = typing-begins (f .typing) t (h .typing) e in
+    let n6 = typing-none (f .typing) t (h .typing) e in
     let b5 = precision-begins (f .precision) u6 b6 in
     let b4 = width-begins (f .width) u5 (h .width) b5 in
     let b3 = zero-begins (f .zero) u4 b4 in
     let b2 = flag-begins (f .alternate) u3 b3 in
     let b1 = sign-begins (f .sign) u2 b2 in
-    let e7 = kind-given (f .kind) t (h .kind) e in
+    let e7 = typing-given (f .typing) t (h .typing) e in
     let e6 = precision-given (f .precision) u6 (h .precision) b6 n6 in
     let e5 = width-given (f .width) u5 (h .width) b5 (precision-none (f .precision) u6 n6) in
     let e4 = zero-given (f .zero) u4 (h .choice2) (λ v q. zero-width (f .zero) (f .width) u5 v (h .choice2$ v q) q) in

@@ -12,10 +12,10 @@ use Rattle.scan.specs.Characters.{isPlain}
 use Rattle.scan.specs.Words.{isDigit}
 use Rattle.frame.specs.declared.Mode.{Mode}
 use Rattle.grammar.specs.Grammar.{All, Plain, NextBrace, Number, Word, value, Position, Alignment, left, right, center, alignChar, filled, byArgument, Letter, lower, upper, letterChar, Tail, Inside, Element}
-use Rattle.grammar.specs.Grammar.{writtenPosition, FitsPosition, writtenLead, writtenSign, writtenFlag, writtenWidth, FitsWidth, writtenPrecision, FitsPrecision, writtenKind, FitsKind, fromWidth, fromZero, writtenFormat, FitsFormat, writtenSpec, FitsSpec, writtenTail, FitsTail, writtenInside, FitsInside, written, Fits}
+use Rattle.grammar.specs.Grammar.{writtenPosition, FitsPosition, writtenLead, writtenSign, writtenFlag, writtenWidth, FitsWidth, writtenPrecision, FitsPrecision, writtenTyping, FitsTyping, fromWidth, fromZero, writtenFormat, FitsFormat, writtenSpec, FitsSpec, writtenTail, FitsTail, writtenInside, FitsInside, written, Fits}
 use Rattle.grammar.specs.Device.Runs.{caseB, takeW, dropW, first, take-drop, take-passes, drop-stops, and-left, and-right}
 use Rattle.grammar.specs.Device.Classes.{to-digit, to-digits, to-plains, to-next-brace, plain-brace}
-use Rattle.grammar.specs.Device.Parser.{Got, okNumber, okWord, positionOf, isSide, side, alignOf, leadOf, signOf, hashOf, zeroOf, numberOf, nameOf, widthOf, dotOf, precisionOf, hexOf, typedOf, kindOf, t1, t2, t3, t4, t5, t6, formatOf, modifierOf, specOf, tailOf, pastPosition, insideOf, Step, piece, done, wrong, rawAt, closeOf, insideStep, openStep, closeStep, step}
+use Rattle.grammar.specs.Device.Parser.{Got, okNumber, okWord, positionOf, isSide, side, alignOf, leadOf, signOf, hashOf, zeroOf, numberOf, nameOf, widthOf, dotOf, precisionOf, hexOf, typedOf, typingOf, t1, t2, t3, t4, t5, t6, formatOf, modifierOf, specOf, tailOf, pastPosition, insideOf, Step, piece, done, wrong, rawAt, closeOf, insideStep, openStep, closeStep, step}
 
 -- what a part gives is what it read, and fits where it is right
 pub record Made {A : Type 0} (wr : A → List ℕ → List ℕ) (ft : A → Type 0) (cs : List ℕ) (g : Got A) : Type 0 where
@@ -175,7 +175,7 @@ precision-made (c ∷ cs) =
     (λ h. rw (h, precisionOf) (record { spelled = refl; fits = λ z. tt }))
 
 -- TYPE
-hex-spelled : (x : Letter) (cs : List ℕ) → Made writtenKind FitsKind (letterChar x ∷ cs) (hexOf x cs)
+hex-spelled : (x : Letter) (cs : List ℕ) → Made writtenTyping FitsTyping (letterChar x ∷ cs) (hexOf x cs)
 unfolding hexOf
 hex-spelled x [] = record { spelled = refl; fits = λ z. tt }
 hex-spelled x (d ∷ t) =
@@ -187,31 +187,31 @@ no-letter : (c : ℕ) → eqb c 0x78 ≡ false → eqb c 0x58 ≡ false → (x :
 no-letter c h k lower = eqb-false c 0x78 h
 no-letter c h k upper = eqb-false c 0x58 k
 
-typed-made : (c : ℕ) (cs : List ℕ) → eqb c 0x78 ≡ false → eqb c 0x58 ≡ false → Made writtenKind FitsKind (c ∷ cs) (typedOf (c ∷ cs))
+typed-made : (c : ℕ) (cs : List ℕ) → eqb c 0x78 ≡ false → eqb c 0x58 ≡ false → Made writtenTyping FitsTyping (c ∷ cs) (typedOf (c ∷ cs))
 unfolding typedOf
 typed-made c cs h k =
     caseB (isStart c)
     (λ l. rw (l, typedOf) (record { spelled = cc (take-drop isContinue cs); fits = λ z. (right-word c cs l z, no-letter c h k) }))
     (λ l. rw (l, typedOf) (record { spelled = refl; fits = λ z. tt }))
 
-pub kind-made : (cs : List ℕ) → Made writtenKind FitsKind cs (kindOf cs)
-unfolding kindOf
-kind-made [] = record { spelled = refl; fits = λ z. tt }
-kind-made (c ∷ cs) =
+pub typing-made : (cs : List ℕ) → Made writtenTyping FitsTyping cs (typingOf cs)
+unfolding typingOf
+typing-made [] = record { spelled = refl; fits = λ z. tt }
+typing-made (c ∷ cs) =
     caseB (eqb c 0x78)
-    (λ h. rw (h, kindOf) (rw (eqb-true c 0x78 h) (hex-spelled lower cs)))
+    (λ h. rw (h, typingOf) (rw (eqb-true c 0x78 h) (hex-spelled lower cs)))
     (λ h.
     caseB (eqb c 0x58)
-    (λ k. rw (h, k, kindOf) (rw (eqb-true c 0x58 k) (hex-spelled upper cs)))
+    (λ k. rw (h, k, typingOf) (rw (eqb-true c 0x58 k) (hex-spelled upper cs)))
     (λ k.
     caseB (eqb c 0x3F)
-    (λ l. rw (h, k, l, kindOf) (record { spelled = cc (eqb-true c 0x3F l); fits = λ z. tt }))
-    (λ l. rw (h, k, l, kindOf) (typed-made c cs h k))))
+    (λ l. rw (h, k, l, typingOf) (record { spelled = cc (eqb-true c 0x3F l); fits = λ z. tt }))
+    (λ l. rw (h, k, l, typingOf) (typed-made c cs h k))))
 
 -- FORMAT SPEC
 width-on : (cs : List ℕ) → fromWidth (formatOf cs .val) (formatOf cs .rest) ≡ t4 cs
 unfolding formatOf
-width-on cs = cc (width-made (t4 cs) .spelled, precision-made (t5 cs) .spelled, kind-made (t6 cs) .spelled)
+width-on cs = cc (width-made (t4 cs) .spelled, precision-made (t5 cs) .spelled, typing-made (t6 cs) .spelled)
 
 zero-on : (cs : List ℕ) → fromZero (formatOf cs .val) (formatOf cs .rest) ≡ t3 cs
 unfolding formatOf
@@ -226,7 +226,7 @@ unfolding formatOf
 format-made cs =
     let w = widthOf (t4 cs) .ok in
     let p = precisionOf (t5 cs) .ok in
-    let k = kindOf (t6 cs) .ok in
+    let k = typingOf (t6 cs) .ok in
     record {
       spelled = format-spelled cs;
       fits =
@@ -237,7 +237,7 @@ format-made cs =
             choice2$ = rw (zero-on cs) (zero-choice$ (t3 cs));
             width = width-made (t4 cs) .fits (and-left w (p && k) z);
             precision = precision-made (t5 cs) .fits (and-left p k (and-right w (p && k) z));
-            kind = kind-made (t6 cs) .fits (and-right p k (and-right w (p && k) z));
+            typing = typing-made (t6 cs) .fits (and-right p k (and-right w (p && k) z));
           };
     }
 

@@ -7,7 +7,7 @@ use Rattle.letters.specs.Questions.{isSpace, isStart, isContinue}
 use Rattle.scan.specs.Characters.{isPlain}
 use Rattle.scan.specs.Words.{isDigit}
 use Rattle.frame.specs.declared.Mode.{Mode}
-use Rattle.grammar.specs.Grammar.{value, Position, next, number, word, Alignment, left, right, center, Lead, unaligned, aligned, filled, Signed, unsigned, plus, minus, Width, implied, fixed, byArgument, byName, Precision, undotted, star, dot, Letter, lower, upper, Kind, untyped, debug, hexDebug, hex, typed, FormatSpec, SpecText, formatSpec, unmodified, modifier, freeText, Tail, bare, colon, Inside, Element, run, opened, closed, placeholder}
+use Rattle.grammar.specs.Grammar.{value, Position, next, number, word, Alignment, left, right, center, Lead, unaligned, aligned, filled, Signed, unsigned, plus, minus, Width, implied, fixed, byArgument, byName, Precision, undotted, star, dot, Letter, lower, upper, Typing, untyped, debug, hexDebug, hex, typed, FormatSpec, SpecText, formatSpec, unmodified, modifier, freeText, Tail, bare, colon, Inside, Element, run, opened, closed, placeholder}
 use Rattle.grammar.specs.Device.Runs.{takeW, dropW, first}
 
 -- what a part took, what it left, and whether what it took is right
@@ -112,18 +112,18 @@ unfoldable pub okDebug : List ℕ → Bool
 okDebug [] = true
 okDebug (c ∷ t) = not (eqb c 0x23 || (eqb c 0x78 || eqb c 0x58))
 
-unfoldable pub hexOf : Letter → List ℕ → Got Kind
+unfoldable pub hexOf : Letter → List ℕ → Got Typing
 hexOf x [] = got (hex x) [] true
 hexOf x (d ∷ t) = elim (eqb d 0x3F) [ true ↦ got (hexDebug x) t true | false ↦ got (hex x) (d ∷ t) true ]
 
-unfoldable pub typedOf : List ℕ → Got Kind
+unfoldable pub typedOf : List ℕ → Got Typing
 typedOf [] = got untyped [] true
 typedOf (c ∷ cs) =
     elim (isStart c) [ true ↦ got (typed c (takeW isContinue cs)) (dropW isContinue cs) (okWord c (takeW isContinue cs)) | false ↦ got untyped (c ∷ cs) true ]
 
-unfoldable pub kindOf : List ℕ → Got Kind
-kindOf [] = got untyped [] true
-kindOf (c ∷ cs) =
+unfoldable pub typingOf : List ℕ → Got Typing
+typingOf [] = got untyped [] true
+typingOf (c ∷ cs) =
     elim (eqb c 0x78) [
       | true ↦ hexOf lower cs
       | false ↦ elim (eqb c 0x58) [ true ↦ hexOf upper cs | false ↦ elim (eqb c 0x3F) [ true ↦ got debug cs (okDebug cs) | false ↦ typedOf (c ∷ cs) ] ]
@@ -149,7 +149,7 @@ abbrev pub t6 : List ℕ → List ℕ
 t6 cs = precisionOf (t5 cs) .rest
 
 abbrev pub t7 : List ℕ → List ℕ
-t7 cs = kindOf (t6 cs) .rest
+t7 cs = typingOf (t6 cs) .rest
 
 unfoldable pub formatOf : List ℕ → Got FormatSpec
 formatOf cs =
@@ -162,10 +162,10 @@ formatOf cs =
             zero = zeroOf (t3 cs) .val;
             width = widthOf (t4 cs) .val;
             precision = precisionOf (t5 cs) .val;
-            kind = kindOf (t6 cs) .val;
+            typing = typingOf (t6 cs) .val;
           };
       rest = t7 cs;
-      ok = widthOf (t4 cs) .ok && (precisionOf (t5 cs) .ok && kindOf (t6 cs) .ok);
+      ok = widthOf (t4 cs) .ok && (precisionOf (t5 cs) .ok && typingOf (t6 cs) .ok);
     }
 
 unfoldable pub modifierOf : List ℕ → Got SpecText

@@ -31,14 +31,14 @@ use Rattle.placeholder.specs.declared.format.SpecRead.{SpecRead}
 use Rattle.grammar.specs.Grammar.{FormatSpec, SpecText, writtenLead, writtenSign, writtenFlag, writtenWidth}
 use Rattle.grammar.specs.Pieces.{size, widthAt, precisionAt, typeAt, countOf, widthSpan, precisionOf as precisionCount, precisionSpan, typeText, typeSpan, formatAt, specAt, typeOnly as typeRecord, pastPrecision, pastSpec}
 use Rattle.grammar.specs.Device.Runs.{caseB, and-left, and-right}
-use Rattle.grammar.specs.Device.Parser.{Got, widthOf, precisionOf, kindOf, t1, t2, t3, t4, t5, t6, formatOf, modifierOf, specOf}
-use Rattle.grammar.specs.Device.Made.{lead-spelled, sign-spelled, hash-spelled, zero-spelled, width-made, precision-made, kind-made}
-use Rattle.grammar.specs.Device.Splits.{Splits, both, lead-split, sign-split, flag-split, width-split, precision-split, kind-split}
+use Rattle.grammar.specs.Device.Parser.{Got, widthOf, precisionOf, typingOf, t1, t2, t3, t4, t5, t6, formatOf, modifierOf, specOf}
+use Rattle.grammar.specs.Device.Made.{lead-spelled, sign-spelled, hash-spelled, zero-spelled, width-made, precision-made, typing-made}
+use Rattle.grammar.specs.Device.Splits.{Splits, both, lead-split, sign-split, flag-split, width-split, precision-split, typing-split}
 use Rattle.grammar.specs.Device.Stands.{Stands, text-place, text-left, size-split, part-place}
 use Rattle.grammar.specs.Device.Spans.{between-present}
 use Rattle.grammar.specs.Device.Words.{flawless}
 use Rattle.grammar.specs.Device.Parts.{lead-same, sign-same, hash-same, width-same, precision-same}
-use Rattle.grammar.specs.Device.Types.{type-none, type-some, kind-same}
+use Rattle.grammar.specs.Device.Types.{type-none, type-some, typing-same}
 
 -- before the flag `0`, and from there to the precision
 abbrev before : FormatSpec → List ℕ → List ℕ
@@ -74,11 +74,11 @@ module _ (t : List ℕ) (f : Frame) where
       let s3 = hash-same t (si .at) (t2 cs) (s2 .stands) in
       let s4 = width-same t f (ha .at) (t3 cs) (s3 .stands) in
       let s5 = precision-same t f (wi .at) n (t5 cs) (s4 .stands) in
-      let s6 = kind-same t f (pr .at) (t6 cs) (s5 .stands) in
+      let s6 = typing-same t f (pr .at) (t6 cs) (s5 .stands) in
       let x : FormatSpec = formatOf cs .val in
       let w : Bool = widthOf (t4 cs) .ok in
       let p : Bool = precisionOf (t5 cs) .ok in
-      let k : Bool = kindOf (t6 cs) .ok in
+      let k : Bool = typingOf (t6 cs) .ok in
       let q3 : before x (t3 cs) ≡ cs = cc (lead-spelled cs, sign-spelled (t1 cs), hash-spelled (t2 cs)) in
       let q5 : counts x (t5 cs) ≡ t3 cs = cc (zero-spelled (t3 cs), width-made (t4 cs) .spelled) in
       let e3 = part-place t (at .0) (ha .at .0) (before-split x) cs (t3 cs) q3 h (s3 .stands) in
@@ -91,8 +91,8 @@ module _ (t : List ℕ) (f : Frame) where
       let p5 : wi .at .0 ≡ precisionAt (at .0) x = omega arith in
       let p6 : pr .at .0 ≡ typeAt (at .0) x = omega arith in
       let ty : TypeRead = typeRead t f (pr .at) in
-      let q7 = kind-made (t6 cs) .spelled in
-      let e7 = part-place t (pr .at .0) (ty .at .0) (kind-split (x .kind)) (t6 cs) (formatOf cs .rest) q7 (s5 .stands) (s6 .stands) in
+      let q7 = typing-made (t6 cs) .spelled in
+      let e7 = part-place t (pr .at .0) (ty .at .0) (typing-split (x .typing)) (t6 cs) (formatOf cs .rest) q7 (s5 .stands) (s6 .stands) in
       record {
         stands = s6 .stands;
         clean = cc (s4 .clean, s5 .clean, s6 .clean);
@@ -106,8 +106,8 @@ module _ (t : List ℕ) (f : Frame) where
             let widthspan = s4 .span a (omega arith) ∙ ap (λ i. widthSpan q i (x .width)) p4 in
             let precision = s5 .found b ∙ ap (λ i. precisionCount q i n (x .precision)) p5 in
             let precisionspan = s5 .span (omega arith) ∙ ap (λ i. precisionSpan q i (x .precision)) p5 in
-            let kind = s6 .kind ∙ ap (λ i. typeText i (x .kind)) p6 in
-            let typespan = s6 .span l ∙ ap (λ i. typeSpan q i (x .kind)) p6 in
+            let typetext = s6 .typetext ∙ ap (λ i. typeText i (x .typing)) p6 in
+            let typespan = s6 .span l ∙ ap (λ i. typeSpan q i (x .typing)) p6 in
             λ i.
             record {
               fill = s1 .fill i;
@@ -120,7 +120,7 @@ module _ (t : List ℕ) (f : Frame) where
               widthspan = widthspan i;
               precision = precision i;
               precisionspan = precisionspan i;
-              typetext = kind i;
+              typetext = typetext i;
               typespan = typespan i;
             };
       }
@@ -143,18 +143,18 @@ module _ (t : List ℕ) (f : Frame) where
   modifier-same colon n [] h =
       let at : TextPlace = place (colon .0 + 1) in
       let s = type-none t f at [] h tt in
-      record { stands = s .stands; clean = s .clean; next = refl; found = λ z l. only (wordType t f at) n _ _ (s .hex) (s .kind) (s .span l) }
+      record { stands = s .stands; clean = s .clean; next = refl; found = λ z l. only (wordType t f at) n _ _ (s .hex) (s .typetext) (s .span l) }
   modifier-same colon n (c ∷ cs) h =
       let at : TextPlace = place (colon .0 + 1) in
       caseB (isStart c)
       (λ k.
       let s = type-some t f at c cs h k in
       rw (k, modifierOf)
-      (record { stands = s .stands; clean = s .clean; next = refl; found = λ z l. only (wordType t f at) n _ _ (s .hex) (s .kind) (s .span l) }))
+      (record { stands = s .stands; clean = s .clean; next = refl; found = λ z l. only (wordType t f at) n _ _ (s .hex) (s .typetext) (s .span l) }))
       (λ k.
       let s = type-none t f at (c ∷ cs) h k in
       rw (k, modifierOf)
-      (record { stands = s .stands; clean = s .clean; next = refl; found = λ z l. only (wordType t f at) n _ _ (s .hex) (s .kind) (s .span l) }))
+      (record { stands = s .stands; clean = s .clean; next = refl; found = λ z l. only (wordType t f at) n _ _ (s .hex) (s .typetext) (s .span l) }))
 
   pub spec-same : (m : Mode) (colon : TextPlace) (n : ℕ) (cs : List ℕ) → Stands t (colon .0 + 1) cs →
       SpecSame colon n (specOf m cs) (afterColon t f m colon (place (colon .0 + 1)) n)

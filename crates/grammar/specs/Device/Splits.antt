@@ -5,8 +5,8 @@ use mathlib.Core.Bool.{Bool, true, false}
 use Prim.Native.Nat.{ℕ, _<_}
 use lib.ListN.{length}
 use native.Mathlib.Omega.{arith}
-use Rattle.grammar.specs.Grammar.{Position, next, number, word, Lead, unaligned, aligned, filled, Signed, unsigned, plus, minus, Width, implied, fixed, byArgument, byName, Precision, undotted, star, dot, Kind, untyped, debug, hexDebug, hex, typed, FormatSpec, SpecText, formatSpec, unmodified, modifier, freeText, Tail, bare, colon, Inside, Element, run, opened, closed, placeholder}
-use Rattle.grammar.specs.Grammar.{writtenPosition, writtenLead, writtenSign, writtenFlag, writtenWidth, writtenPrecision, writtenKind, writtenFormat, writtenSpec, writtenTail, writtenInside, written}
+use Rattle.grammar.specs.Grammar.{Position, next, number, word, Lead, unaligned, aligned, filled, Signed, unsigned, plus, minus, Width, implied, fixed, byArgument, byName, Precision, undotted, star, dot, Typing, untyped, debug, hexDebug, hex, typed, FormatSpec, SpecText, formatSpec, unmodified, modifier, freeText, Tail, bare, colon, Inside, Element, run, opened, closed, placeholder}
+use Rattle.grammar.specs.Grammar.{writtenPosition, writtenLead, writtenSign, writtenFlag, writtenWidth, writtenPrecision, writtenTyping, writtenFormat, writtenSpec, writtenTail, writtenInside, written}
 
 abbrev pub Splits : (List ℕ → List ℕ) → Type 0
 Splits w = (t : List ℕ) → w t ≡ w [] ++ t
@@ -51,19 +51,19 @@ precision-split undotted = λ t. refl
 precision-split star = λ t. refl
 precision-split (dot w) = both (code 0x2E) (width-split w)
 
-pub kind-split : (k : Kind) → Splits (writtenKind k)
-kind-split untyped = λ t. refl
-kind-split debug = λ t. refl
-kind-split (hexDebug x) = λ t. refl
-kind-split (hex x) = λ t. refl
-kind-split (typed c r) = both (code c) (codes r)
+pub typing-split : (k : Typing) → Splits (writtenTyping k)
+typing-split untyped = λ t. refl
+typing-split debug = λ t. refl
+typing-split (hexDebug x) = λ t. refl
+typing-split (hex x) = λ t. refl
+typing-split (typed c r) = both (code c) (codes r)
 
 pub format-split : (f : FormatSpec) → Splits (writtenFormat f)
 format-split f =
     both (lead-split (f .lead))
     (both (sign-split (f .sign))
     (both (flag-split 0x23 (f .alternate))
-    (both (flag-split 0x30 (f .zero)) (both (width-split (f .width)) (both (precision-split (f .precision)) (kind-split (f .kind)))))))
+    (both (flag-split 0x30 (f .zero)) (both (width-split (f .width)) (both (precision-split (f .precision)) (typing-split (f .typing)))))))
 
 pub spec-split : (s : SpecText) → Splits (writtenSpec s)
 spec-split (formatSpec f) = format-split f

@@ -17,20 +17,20 @@ use Rattle.placeholder.specs.Types.{hexType, isHexOrHash, debugType, wordType, 
 use Rattle.placeholder.specs.declared.Hex.{Hex}
 use Rattle.placeholder.specs.declared.MaybeSpan.{MaybeSpan}
 use Rattle.placeholder.specs.declared.format.TypeRead.{TypeRead}
-use Rattle.grammar.specs.Grammar.{Letter, lower, upper, Kind, untyped, debug, hex}
+use Rattle.grammar.specs.Grammar.{Letter, lower, upper, Typing, untyped, debug, hex}
 use Rattle.grammar.specs.Pieces.{size, bytes, bytesAt, present, letterOf, typeText, typeSpan, hexOf as hexRecord}
 use Rattle.grammar.specs.Device.Runs.{caseB, takeW, dropW, Stops}
-use Rattle.grammar.specs.Device.Parser.{Got, got, okWord, okDebug, hexOf, typedOf, kindOf}
+use Rattle.grammar.specs.Device.Parser.{Got, got, okWord, okDebug, hexOf, typedOf, typingOf}
 use Rattle.grammar.specs.Device.Stands.{Stands, is-at, consume-yes, consume-no, past-ascii}
 use Rattle.grammar.specs.Device.Spans.{between-present}
 use Rattle.grammar.specs.Device.Words.{flawless, clean-pick, empty, not-empty, past-word, word-none, wordOf, word-some}
 
 module _ (t : List ℕ) (f : Frame) where
-  pub record KindSame (at : TextPlace) (g : Got Kind) (r : TypeRead) : Type 0 where
+  pub record TypingSame (at : TextPlace) (g : Got Typing) (r : TypeRead) : Type 0 where
     pub stands : Stands t (r .at .0) (g .rest)
     pub clean : flawless (r .flaw) ≡ g .ok
     pub hex : r .hex ≡ hexRecord (g .val)
-    pub kind : r .typetext ≡ typeText (at .0) (g .val)
+    pub typetext : r .typetext ≡ typeText (at .0) (g .val)
     pub span : r .at .0 < length t → r .span ≡ typeSpan (f .quote) (at .0) (g .val)
 
   -- `x`, `X`, `x?`, `X?`
@@ -38,17 +38,17 @@ module _ (t : List ℕ) (f : Frame) where
   two-on i = let e : i + 1 + 1 ≡ i + 2 = omega arith in ap (λ j. bytes (i + 1) j) e
 
   hex-same : (at : TextPlace) (x : Letter) (cs : List ℕ) → Stands t (at .0 + 1) cs →
-      KindSame at (hexOf x cs) (hexType t (letterOf x) at (place (at .0 + 1)))
+      TypingSame at (hexOf x cs) (hexType t (letterOf x) at (place (at .0 + 1)))
   unfolding hexOf hexType pick
   hex-same at x [] h =
-      rw (consume-no t (place (at .0 + 1)) 0x3F [] h refl) (record { stands = h; clean = refl; hex = refl; kind = refl; span = λ l. refl })
+      rw (consume-no t (place (at .0 + 1)) 0x3F [] h refl) (record { stands = h; clean = refl; hex = refl; typetext = refl; span = λ l. refl })
   hex-same at x (c ∷ cs) h =
       let p : TextPlace = place (at .0 + 1) in
       caseB (eqb c 0x3F)
       (λ k.
       rw (consume-yes t p 0x3F (c ∷ cs) h k, k, hexOf)
-      (record { stands = past-ascii t (at .0 + 1) 0x3F c cs (omega arith) h k; clean = refl; hex = refl; kind = two-on (at .0); span = λ l. refl }))
-      (λ k. rw (consume-no t p 0x3F (c ∷ cs) h k, k, hexOf) (record { stands = h; clean = refl; hex = refl; kind = refl; span = λ l. refl }))
+      (record { stands = past-ascii t (at .0 + 1) 0x3F c cs (omega arith) h k; clean = refl; hex = refl; typetext = two-on (at .0); span = λ l. refl }))
+      (λ k. rw (consume-no t p 0x3F (c ∷ cs) h k, k, hexOf) (record { stands = h; clean = refl; hex = refl; typetext = refl; span = λ l. refl }))
 
   -- `?`
   clean-not : (b : Bool) (x : Flaw) → flawless x ≡ false → flawless (pick b x Flaw.Clean) ≡ not b
@@ -63,24 +63,24 @@ module _ (t : List ℕ) (f : Frame) where
       rw (is-at t at 0x23 (c ∷ cs) h, is-at t at 0x78 (c ∷ cs) h, is-at t at 0x58 (c ∷ cs) h)
       (caseB (eqb c 0x23) (λ k. rw k) (λ k. rw k (caseB (eqb c 0x78) (λ l. rw l) (λ l. rw l))))
 
-  debug-same : (at : TextPlace) (cs : List ℕ) → Stands t (at .0 + 1) cs → KindSame at (got debug cs (okDebug cs)) (debugType t at (place (at .0 + 1)))
+  debug-same : (at : TextPlace) (cs : List ℕ) → Stands t (at .0 + 1) cs → TypingSame at (got debug cs (okDebug cs)) (debugType t at (place (at .0 + 1)))
   unfolding debugType
   debug-same at cs h =
       let p : TextPlace = place (at .0 + 1) in
-      record { stands = h; clean = clean-not (isHexOrHash t p) (Flaw.AfterDebug at) refl ∙ hex-or-hash p cs h; hex = refl; kind = refl; span = λ l. refl }
+      record { stands = h; clean = clean-not (isHexOrHash t p) (Flaw.AfterDebug at) refl ∙ hex-or-hash p cs h; hex = refl; typetext = refl; span = λ l. refl }
 
   -- a word, or nothing
   pub record WordSame (range : TextRange) (s : MaybeSpan) (u : List ℕ) (b : Bool) (x : TypeRead) : Type 0 where
     pub stands : Stands t (x .at .0) u
     pub clean : flawless (x .flaw) ≡ b
     pub hex : x .hex ≡ Hex.Absent
-    pub kind : x .typetext ≡ range
+    pub typetext : x .typetext ≡ range
     pub span : x .at .0 < length t → x .span ≡ s
 
   pub type-none : (at : TextPlace) (cs : List ℕ) → Stands t (at .0) cs → Stops isStart cs →
       WordSame (bytes (at .0) (at .0)) MaybeSpan.Absent cs true (wordType t f at)
   unfolding wordType pick
-  type-none at cs h s = rw (word-none t at cs h s, empty at) (record { stands = h; clean = refl; hex = refl; kind = refl; span = λ l. refl })
+  type-none at cs h s = rw (word-none t at cs h s, empty at) (record { stands = h; clean = refl; hex = refl; typetext = refl; span = λ l. refl })
 
   pub type-some : (at : TextPlace) (c : ℕ) (cs : List ℕ) → Stands t (at .0) (c ∷ cs) → isStart c ≡ true →
       let r = c ∷ takeW isContinue cs in
@@ -94,41 +94,41 @@ module _ (t : List ℕ) (f : Frame) where
         stands = past-word t at isContinue c cs h;
         clean = clean-pick (okWord c r) (Flaw.Underscore (rangeOf at e)) refl;
         hex = refl;
-        kind = refl;
+        typetext = refl;
         span = between-present t f at e (e .0) refl (omega arith);
       })
 
-  no-type : (at : TextPlace) (cs : List ℕ) → Stands t (at .0) cs → Stops isStart cs → KindSame at (got untyped cs true) (wordType t f at)
-  no-type at cs h s = let x = type-none at cs h s in record { stands = x .stands; clean = x .clean; hex = x .hex; kind = x .kind; span = x .span }
+  no-type : (at : TextPlace) (cs : List ℕ) → Stands t (at .0) cs → Stops isStart cs → TypingSame at (got untyped cs true) (wordType t f at)
+  no-type at cs h s = let x = type-none at cs h s in record { stands = x .stands; clean = x .clean; hex = x .hex; typetext = x .typetext; span = x .span }
 
-  typed-same : (at : TextPlace) (cs : List ℕ) → Stands t (at .0) cs → KindSame at (typedOf cs) (wordType t f at)
+  typed-same : (at : TextPlace) (cs : List ℕ) → Stands t (at .0) cs → TypingSame at (typedOf cs) (wordType t f at)
   unfolding typedOf
   typed-same at [] h = no-type at [] h tt
   typed-same at (c ∷ cs) h =
       caseB (isStart c)
       (λ k.
       let s = type-some at c cs h k in
-      rw (k, typedOf) (record { stands = s .stands; clean = s .clean; hex = s .hex; kind = s .kind; span = s .span }))
+      rw (k, typedOf) (record { stands = s .stands; clean = s .clean; hex = s .hex; typetext = s .typetext; span = s .span }))
       (λ k. rw (k, typedOf) (no-type at (c ∷ cs) h k))
 
-  pub kind-same : (at : TextPlace) (cs : List ℕ) → Stands t (at .0) cs → KindSame at (kindOf cs) (typeRead t f at)
-  unfolding kindOf typedOf typeRead pick
-  kind-same at [] h =
+  pub typing-same : (at : TextPlace) (cs : List ℕ) → Stands t (at .0) cs → TypingSame at (typingOf cs) (typeRead t f at)
+  unfolding typingOf typedOf typeRead pick
+  typing-same at [] h =
       rw (consume-no t at 0x78 [] h refl, consume-no t at 0x58 [] h refl, consume-no t at 0x3F [] h refl) (no-type at [] h tt)
-  kind-same at (c ∷ cs) h =
+  typing-same at (c ∷ cs) h =
       let us = c ∷ cs in
       caseB (eqb c 0x78)
-      (λ k. rw (consume-yes t at 0x78 us h k, k, kindOf) (hex-same at lower cs (past-ascii t (at .0) 0x78 c cs (omega arith) h k)))
+      (λ k. rw (consume-yes t at 0x78 us h k, k, typingOf) (hex-same at lower cs (past-ascii t (at .0) 0x78 c cs (omega arith) h k)))
       (λ k.
       caseB (eqb c 0x58)
       (λ l.
-      rw (consume-no t at 0x78 us h k, consume-yes t at 0x58 us h l, k, l, kindOf)
+      rw (consume-no t at 0x78 us h k, consume-yes t at 0x58 us h l, k, l, typingOf)
       (hex-same at upper cs (past-ascii t (at .0) 0x58 c cs (omega arith) h l)))
       (λ l.
       caseB (eqb c 0x3F)
       (λ m.
-      rw (consume-no t at 0x78 us h k, consume-no t at 0x58 us h l, consume-yes t at 0x3F us h m, k, l, m, kindOf)
+      rw (consume-no t at 0x78 us h k, consume-no t at 0x58 us h l, consume-yes t at 0x3F us h m, k, l, m, typingOf)
       (debug-same at cs (past-ascii t (at .0) 0x3F c cs (omega arith) h m)))
       (λ m.
-      rw (consume-no t at 0x78 us h k, consume-no t at 0x58 us h l, consume-no t at 0x3F us h m, k, l, m, kindOf)
+      rw (consume-no t at 0x78 us h k, consume-no t at 0x58 us h l, consume-no t at 0x3F us h m, k, l, m, typingOf)
       (typed-same at us h))))

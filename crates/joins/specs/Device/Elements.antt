@@ -6,7 +6,7 @@ use Prim.Native.Nat.{ℕ}
 use native.Mathlib.Omega.{arith}
 use Rattle.frame.specs.declared.Mode.{Mode}
 use Rattle.grammar.specs.Grammar.{All, Plain, NextBrace, Alignment, left, right, center, alignChar, FormatSpec, formatSpec, unmodified, modifier, freeText, Tail, bare, colon, Element, run, opened, closed, placeholder, fromZero, writtenFormat, FitsFormat, writtenTail, FitsTail, written, Fits, writtenAll, FitsAll}
-use Rattle.grammar.specs.Device.Splits.{Splits, both, flag-split, width-split, precision-split, kind-split, format-split}
+use Rattle.grammar.specs.Device.Splits.{Splits, both, flag-split, width-split, precision-split, typing-split, format-split}
 
 -- THE JOIN: a run that follows a literal is taken into it
 abbrev pub merged : Element → ℕ → List ℕ → List Element → List Element
@@ -62,7 +62,7 @@ open-align right e = omega arith
 open-align center e = omega arith
 
 zero-split : (f : FormatSpec) → Splits (fromZero f)
-zero-split f = both (flag-split 0x30 (f .zero)) (both (width-split (f .width)) (both (precision-split (f .precision)) (kind-split (f .kind))))
+zero-split f = both (flag-split 0x30 (f .zero)) (both (width-split (f .width)) (both (precision-split (f .precision)) (typing-split (f .typing))))
 
 before-brace : {g : List ℕ → List ℕ} → Splits g → (w t : List ℕ) → g (w ++ (0x7D ∷ t)) ≡ (g [] ++ w) ++ (0x7D ∷ t)
 before-brace {g} s w t = s (w ++ (0x7D ∷ t)) ∙ sym (append-assoc (g []) w (0x7D ∷ t))
@@ -100,7 +100,7 @@ module _ (t u : List ℕ) where
         choice2$ = λ v e. let x = dollar (fromZero f [] ++ w) (sym (ze u) ∙ e) in h .choice2$ (x .0) (ze t ∙ x .1);
         width = h .width;
         precision = h .precision;
-        kind = h .kind;
+        typing = h .typing;
       }
 
   brace-moved : (w : List ℕ) → NextBrace (w ++ (0x7D ∷ t)) → NextBrace (w ++ (0x7D ∷ u))

@@ -7,7 +7,7 @@ use Rattle.placeholder.specs.declared.Place.{Place}
 use Rattle.placeholder.specs.declared.Fill.{Fill}
 use Rattle.placeholder.specs.declared.MaybeSpan.{MaybeSpan}
 use Rattle.reading.specs.declared.Piece.{Piece}
-use Rattle.grammar.specs.Grammar.{Position, next, number, word, Lead, unaligned, aligned, filled, Width, implied, fixed, byArgument, byName, Precision, undotted, star, dot, Kind, untyped, debug, hexDebug, hex, typed, FormatSpec, SpecText, formatSpec, unmodified, modifier, freeText, Tail, bare, colon, Inside, Element, run, opened, closed, placeholder, writtenWidth}
+use Rattle.grammar.specs.Grammar.{Position, next, number, word, Lead, unaligned, aligned, filled, Width, implied, fixed, byArgument, byName, Precision, undotted, star, dot, Typing, untyped, debug, hexDebug, hex, typed, FormatSpec, SpecText, formatSpec, unmodified, modifier, freeText, Tail, bare, colon, Inside, Element, run, opened, closed, placeholder, writtenWidth}
 use Rattle.grammar.specs.Pieces.{wide, size, bytes, endOf, tailAt, widthAt, precisionAt, typeAt, pastPrecision, pastSpec, pastTail, pastPosition, past, placeOf, typeText, spanned, present, fillOf, countOf, widthSpan, precisionOf, precisionSpan, typeSpan, formatAt, specAt, afterPlace, argumentAt, pieceAt, piecesOf}
 use Rattle.joins.specs.Joins.{movedRange, movedSpan, movedMaybe, movedFill, movedPlace, movedCount, movedSpec, movedArgument, moved}
 
@@ -89,14 +89,14 @@ module _ (q d k : ℕ) where
         let n : ℕ = size (writtenWidth w []) in
         present-moved p (p + 1 + n) x (x + 1 + n) h (omega (arith, h))
 
-    text-moved : (y : Kind) → typeText x y ≡ movedRange d k (typeText p y)
+    text-moved : (y : Typing) → typeText x y ≡ movedRange d k (typeText p y)
     text-moved untyped = range-moved p p x x h h
     text-moved debug = range-moved p (p + 1) x (x + 1) h (omega (arith, h))
     text-moved (hexDebug y) = range-moved (p + 1) (p + 2) (x + 1) (x + 2) (omega (arith, h)) (omega (arith, h))
     text-moved (hex y) = range-moved p (p + 1) x (x + 1) h (omega (arith, h))
     text-moved (typed c r) = range-moved p (p + size (c ∷ r)) x (x + size (c ∷ r)) h (omega (arith, h))
 
-    type-moved : (y : Kind) → typeSpan q x y ≡ movedMaybe d k (typeSpan q p y)
+    type-moved : (y : Typing) → typeSpan q x y ≡ movedMaybe d k (typeSpan q p y)
     type-moved untyped = refl
     type-moved debug = refl
     type-moved (hexDebug y) = refl
@@ -121,8 +121,8 @@ module _ (q d k : ℕ) where
         width-moved (widthAt p f) (widthAt x f) w (f .width),
         star-moved (precisionAt p f) (precisionAt x f) n i (f .precision),
         precision-moved (precisionAt p f) (precisionAt x f) i (f .precision),
-        text-moved (typeAt p f) (typeAt x f) j (f .kind),
-        type-moved (typeAt p f) (typeAt x f) j (f .kind),
+        text-moved (typeAt p f) (typeAt x f) j (f .typing),
+        type-moved (typeAt p f) (typeAt x f) j (f .typing),
       )
 
   spec-moved : (p x n : ℕ) (s : SpecText) → x ≡ p + d → specAt q x (n + k) s ≡ movedSpec d k (specAt q p n s)

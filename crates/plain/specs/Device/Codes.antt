@@ -15,8 +15,8 @@ use Rattle.utf8.specs.Utf8.{seq, sequenceAt}
 use Rattle.utf8.specs.Utf8Laws.{rowCode, row-sequence}
 use Rattle.utf8.specs.declared.Sequence.{Sequence}
 use Rattle.frame.specs.declared.Mode.{Mode}
-use Rattle.grammar.specs.Grammar.{All, Digit, value, Number, Position, next, number, word, Lead, unaligned, aligned, filled, Signed, unsigned, plus, minus, Width, implied, fixed, byArgument, byName, Precision, undotted, star, dot, Kind, untyped, debug, hexDebug, hex, typed, FormatSpec, SpecText, formatSpec, unmodified, modifier, freeText, Tail, bare, colon, Element, run, opened, closed, placeholder}
-use Rattle.grammar.specs.Grammar.{FitsPosition, writtenPosition, writtenLead, writtenSign, writtenFlag, writtenWidth, FitsWidth, writtenPrecision, FitsPrecision, writtenKind, writtenFormat, FitsFormat, writtenSpec, writtenTail, FitsTail, written, Fits, writtenAll, FitsAll, utf8}
+use Rattle.grammar.specs.Grammar.{All, Digit, value, Number, Position, next, number, word, Lead, unaligned, aligned, filled, Signed, unsigned, plus, minus, Width, implied, fixed, byArgument, byName, Precision, undotted, star, dot, Typing, untyped, debug, hexDebug, hex, typed, FormatSpec, SpecText, formatSpec, unmodified, modifier, freeText, Tail, bare, colon, Element, run, opened, closed, placeholder}
+use Rattle.grammar.specs.Grammar.{FitsPosition, writtenPosition, writtenLead, writtenSign, writtenFlag, writtenWidth, FitsWidth, writtenPrecision, FitsPrecision, writtenTyping, writtenFormat, FitsFormat, writtenSpec, writtenTail, FitsTail, written, Fits, writtenAll, FitsAll, utf8}
 use Rattle.grammar.specs.Pieces.{wide}
 use Rattle.grammar.specs.Device.Bytes.{code-sequence}
 use Rattle.grammar.specs.Device.Splits.{format-split}
@@ -104,12 +104,12 @@ module _ (t u : List ℕ) (k : All Real t → All Real u) where
   flag-real c false a = k a
   flag-real c true a = (a .0, k (a .1))
 
-  kind-real : (x : Kind) → All Real (writtenKind x t) → All Real (writtenKind x u)
-  kind-real untyped a = k a
-  kind-real debug a = (a .0, k (a .1))
-  kind-real (hexDebug x) a = (a .0, (a .1 .0, k (a .1 .1)))
-  kind-real (hex x) a = (a .0, k (a .1))
-  kind-real (typed c r) a = kept (c ∷ r) t u k a
+  typing-real : (x : Typing) → All Real (writtenTyping x t) → All Real (writtenTyping x u)
+  typing-real untyped a = k a
+  typing-real debug a = (a .0, k (a .1))
+  typing-real (hexDebug x) a = (a .0, (a .1 .0, k (a .1 .1)))
+  typing-real (hex x) a = (a .0, k (a .1))
+  typing-real (typed c r) a = kept (c ∷ r) t u k a
 
 -- a mark and what follows
 marked : (c : ℕ) (t u : List ℕ) → (All Real t → All Real u) → All Real (c ∷ t) → All Real (c ∷ u)
@@ -134,7 +134,7 @@ precision-real t u k (dot (byName c r)) h a = (a .0, width-real t u k (byName c 
 format-real : (t u : List ℕ) → (All Real t → All Real u) → (f : FormatSpec) (v : List ℕ) → FitsFormat f v → All Real (writtenFormat f t) →
     All Real (writtenFormat (plainFormat f) u)
 format-real t u k f v h a =
-    lead-real _ _ (sign-real _ _ (flag-real _ _ (flag-real _ _ (width-real _ _ (precision-real _ _ (kind-real t u k (f .kind)) (f .precision) (h .precision)) (f .width) (h .width)) 0x30 (f .zero)) 0x23 (f .alternate)) (f .sign))
+    lead-real _ _ (sign-real _ _ (flag-real _ _ (flag-real _ _ (width-real _ _ (precision-real _ _ (typing-real t u k (f .typing)) (f .precision) (h .precision)) (f .width) (h .width)) 0x30 (f .zero)) 0x23 (f .alternate)) (f .sign))
     (f .lead) a
 
 -- no colon without a spec

@@ -12,13 +12,13 @@ use Rattle.letters.specs.Questions.{isStart, isContinue}
 use Rattle.letters.specs.QuestionLaws.{start-continues, mark-no-continue}
 use Rattle.scan.specs.Words.{isDigit}
 use Rattle.frame.specs.declared.Mode.{Mode}
-use Rattle.grammar.specs.Grammar.{All, Space, Continue, Digit, NextBrace, value, Number, Position, next, number, word, Alignment, left, right, center, alignChar, Lead, unaligned, aligned, filled, Signed, unsigned, plus, minus, Width, implied, fixed, byArgument, byName, Precision, undotted, star, dot, Letter, lower, upper, letterChar, Kind, untyped, debug, hexDebug, hex, typed, FormatSpec, SpecText, formatSpec, unmodified, modifier, freeText, Tail, bare, colon, Inside, Element, run, opened, closed, placeholder}
-use Rattle.grammar.specs.Grammar.{FitsPosition, writtenLead, writtenSign, writtenFlag, writtenWidth, FitsWidth, writtenPrecision, FitsPrecision, writtenKind, FitsKind, fromZero, writtenFormat, FitsFormat, FitsSpec, FitsTail, writtenAll, FitsAll}
+use Rattle.grammar.specs.Grammar.{All, Space, Continue, Digit, NextBrace, value, Number, Position, next, number, word, Alignment, left, right, center, alignChar, Lead, unaligned, aligned, filled, Signed, unsigned, plus, minus, Width, implied, fixed, byArgument, byName, Precision, undotted, star, dot, Letter, lower, upper, letterChar, Typing, untyped, debug, hexDebug, hex, typed, FormatSpec, SpecText, formatSpec, unmodified, modifier, freeText, Tail, bare, colon, Inside, Element, run, opened, closed, placeholder}
+use Rattle.grammar.specs.Grammar.{FitsPosition, writtenLead, writtenSign, writtenFlag, writtenWidth, FitsWidth, writtenPrecision, FitsPrecision, writtenTyping, FitsTyping, fromZero, writtenFormat, FitsFormat, FitsSpec, FitsTail, writtenAll, FitsAll}
 use Rattle.grammar.specs.Device.Runs.{caseB, Begins, differs}
 use Rattle.grammar.specs.Device.Classes.{precisionFirst, widthFirst, precision-digit, start-digit, width-mark}
 use Rattle.grammar.specs.Device.Parser.{isSide, side}
 use Rattle.grammar.specs.Device.Made.{char-side, side-of}
-use Rattle.grammar.specs.Device.Given.{space-begins, kind-begins, precision-begins, width-begins, precision-dollar}
+use Rattle.grammar.specs.Device.Given.{space-begins, typing-begins, precision-begins, width-begins, precision-dollar}
 use Rattle.grammar.specs.Device.Splits.{format-split}
 use Rattle.pen.specs.Pens.{digits}
 use Rattle.plain.specs.Device.Digits.{first, others, digits-spell}
@@ -62,7 +62,7 @@ plainFormat f =
       zero = f .zero;
       width = plainWidth (f .width);
       precision = plainPrecision (f .precision);
-      kind = f .kind;
+      typing = f .typing;
     }
 
 -- "no colon without a spec"
@@ -152,12 +152,12 @@ precision-sides undotted t h a = a
 precision-sides star t h a = (refl, (refl, a))
 precision-sides (dot w) t h a = (refl, width-sides w t h a)
 
-kind-sides : (k : Kind) → FitsKind k → All NoSide (writtenKind k [])
-kind-sides untyped h = tt
-kind-sides debug h = (refl, tt)
-kind-sides (hexDebug x) h = (letter-side x, (refl, tt))
-kind-sides (hex x) h = (letter-side x, tt)
-kind-sides (typed c r) h = (start-side c (h .0 .first), sides Continue continue-side r [] (h .0 .others) tt)
+typing-sides : (k : Typing) → FitsTyping k → All NoSide (writtenTyping k [])
+typing-sides untyped h = tt
+typing-sides debug h = (refl, tt)
+typing-sides (hexDebug x) h = (letter-side x, (refl, tt))
+typing-sides (hex x) h = (letter-side x, tt)
+typing-sides (typed c r) h = (start-side c (h .0 .first), sides Continue continue-side r [] (h .0 .others) tt)
 
 flag-sides : (c : ℕ) (b : Bool) (t : List ℕ) → NoSide c → All NoSide t → All NoSide (writtenFlag c b t)
 flag-sides c false t n a = a
@@ -274,13 +274,13 @@ format-plain : (f : FormatSpec) (w t u : List ℕ) → All Space w → FitsForma
 format-plain f w t u sp h n =
     let g = plainFormat f in
     let e = space-begins w t sp in
-    let bs = precision-begins (f .precision) _ (kind-begins (f .kind) (w ++ (0x7D ∷ t)) (h .kind) e) in
-    let bt = precision-begins (g .precision) _ (kind-begins (f .kind) (0x7D ∷ u) (h .kind) refl) in
+    let bs = precision-begins (f .precision) _ (typing-begins (f .typing) (w ++ (0x7D ∷ t)) (h .typing) e) in
+    let bt = precision-begins (g .precision) _ (typing-begins (f .typing) (0x7D ∷ u) (h .typing) refl) in
     let hw = width-plain (f .width) (h .width) in
     let hp = precision-plain (f .precision) (h .precision) in
     let b : List ℕ = writtenSign (f .sign) (writtenFlag 0x23 (f .alternate) (fromZero g [])) in
     let ab : All NoSide b =
-    sign-sides (f .sign) _ (flag-sides 0x23 (f .alternate) _ refl (flag-sides 0x30 (f .zero) _ refl (width-sides (g .width) _ hw (precision-sides (g .precision) _ hp (kind-sides (f .kind) (h .kind))))))
+    sign-sides (f .sign) _ (flag-sides 0x23 (f .alternate) _ refl (flag-sides 0x30 (f .zero) _ refl (width-sides (g .width) _ hw (precision-sides (g .precision) _ hp (typing-sides (f .typing) (h .typing))))))
     in
     record {
       choice1 = λ c a v q. lead-choice (f .lead) b u ab n c a v (sym (format-split g (0x7D ∷ u)) ∙ q);
@@ -288,7 +288,7 @@ format-plain f w t u sp h n =
       choice2$ = dollar-choice (f .zero) (g .width) _ hw bt;
       width = hw;
       precision = hp;
-      kind = h .kind;
+      typing = h .typing;
     }
 
 -- ELEMENTS

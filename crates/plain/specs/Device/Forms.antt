@@ -13,8 +13,8 @@ use Rattle.utf8.specs.ChoiceLaws.{pick-elim}
 use Rattle.utf8.specs.Encode.{encode}
 use Rattle.frame.specs.declared.Mode.{Mode}
 use Rattle.reading.specs.Lists.{gather}
-use Rattle.grammar.specs.Grammar.{All, Digit, Plain, value, Number, Position, next, number, word, left, right, center, Lead, unaligned, aligned, filled, Signed, unsigned, plus, minus, Width, implied, fixed, byArgument, byName, Precision, undotted, star, dot, lower, upper, Kind, untyped, debug, hexDebug, hex, typed, FormatSpec, SpecText, formatSpec, unmodified, modifier, freeText, Tail, bare, colon, Inside, Element, run, opened, closed, placeholder}
-use Rattle.grammar.specs.Grammar.{writtenPosition, FitsPosition, writtenLead, writtenSign, writtenFlag, writtenWidth, FitsWidth, writtenPrecision, FitsPrecision, writtenKind, writtenFormat, FitsFormat, writtenSpec, writtenTail, FitsTail, written, Fits, writtenAll, FitsAll, utf8}
+use Rattle.grammar.specs.Grammar.{All, Digit, Plain, value, Number, Position, next, number, word, left, right, center, Lead, unaligned, aligned, filled, Signed, unsigned, plus, minus, Width, implied, fixed, byArgument, byName, Precision, undotted, star, dot, lower, upper, Typing, untyped, debug, hexDebug, hex, typed, FormatSpec, SpecText, formatSpec, unmodified, modifier, freeText, Tail, bare, colon, Inside, Element, run, opened, closed, placeholder}
+use Rattle.grammar.specs.Grammar.{writtenPosition, FitsPosition, writtenLead, writtenSign, writtenFlag, writtenWidth, FitsWidth, writtenPrecision, FitsPrecision, writtenTyping, writtenFormat, FitsFormat, writtenSpec, writtenTail, FitsTail, written, Fits, writtenAll, FitsAll, utf8}
 use Rattle.grammar.specs.Pieces.{wide, past, pastTail, alignOf, signOf, hexOf}
 use Rattle.grammar.specs.Device.Splits.{format-split}
 use Rattle.grammar.specs.Device.Stands.{wide-some}
@@ -23,7 +23,7 @@ use Rattle.pen.specs.Pens.{digits}
 use Rattle.plain.specs.Plain.{plainPlace, plainFill, plainAlign, plainSign, plainFlag, plainCount, after, plainHex, plainSpec, doubled, plainPiece, plainForm}
 use Rattle.plain.specs.Device.Digits.{digits-spell}
 use Rattle.plain.specs.Device.Elements.{leading, following, plainWidth, plainPrecision, plainPosition, plainFormat, unlessBlank, plainTail, plainElement, plainly}
-use Rattle.plain.specs.Device.Says.{ofPosition, ofLead, ofWidth, ofPrecision, ofKind, ofFormat, ofTail, ofElement, ofAll}
+use Rattle.plain.specs.Device.Says.{ofPosition, ofLead, ofWidth, ofPrecision, ofTyping, ofFormat, ofTail, ofElement, ofAll}
 use Rattle.plain.specs.Device.Same.{is-format}
 
 -- DIGITS are their own bytes
@@ -122,22 +122,22 @@ precision-form n (dot (byArgument d r)) u h =
     some-count (digits (value 0 (d ∷ r)) ++ (0x24 ∷ [])) (plainWidth (byArgument d r)) u (some-more (digits (value 0 (d ∷ r))) 0x24) (width-form (byArgument d r) u h)
 precision-form n (dot (byName c r)) u h = some-count (utf8 (c ∷ r) ++ (0x24 ∷ [])) (byName c r) u (some-more (utf8 (c ∷ r)) 0x24) (width-form (byName c r) u h)
 
-kind-form : (x : Kind) → plainHex (hexOf x) ++ ofKind x ≡ utf8 (writtenKind x [])
+typing-form : (x : Typing) → plainHex (hexOf x) ++ ofTyping x ≡ utf8 (writtenTyping x [])
 unfolding utf8 encode pick
-kind-form untyped = refl
-kind-form debug = refl
-kind-form (hexDebug lower) = refl
-kind-form (hexDebug upper) = refl
-kind-form (hex lower) = refl
-kind-form (hex upper) = refl
-kind-form (typed c r) = ap (λ l. utf8 (c ∷ l)) (sym (append-nil r))
+typing-form untyped = refl
+typing-form debug = refl
+typing-form (hexDebug lower) = refl
+typing-form (hexDebug upper) = refl
+typing-form (hex lower) = refl
+typing-form (hex upper) = refl
+typing-form (typed c r) = ap (λ l. utf8 (c ∷ l)) (sym (append-nil r))
 
 -- A FORMAT SPEC
 format-form : (n : ℕ) (f : FormatSpec) (t : List ℕ) → FitsFormat f t → plainSpec (ofFormat n f) ≡ utf8 (writtenFormat (plainFormat f) [])
 unfolding plainSpec
 format-form n f t h =
     let g = plainFormat f in
-    let ki : List ℕ = writtenKind (f .kind) [] in
+    let ki : List ℕ = writtenTyping (f .typing) [] in
     let pr : List ℕ = writtenPrecision (g .precision) ki in
     let wi : List ℕ = writtenWidth (g .width) pr in
     let ze : List ℕ = writtenFlag 0x30 (f .zero) wi in
@@ -147,7 +147,7 @@ format-form n f t h =
     let c : List ℕ → List ℕ = λ l. b (plainFlag 0x23 (f .alternate) ++ l) in
     let d : List ℕ → List ℕ = λ l. c (plainFlag 0x30 (f .zero) ++ l) in
     let e : List ℕ → List ℕ = λ l. d (plainCount (ofWidth (f .width)) ++ l) in
-    ap (λ l. e (after 0x2E (plainCount (ofPrecision n (f .precision))) ++ l)) (kind-form (f .kind))
+    ap (λ l. e (after 0x2E (plainCount (ofPrecision n (f .precision))) ++ l)) (typing-form (f .typing))
     ∙ (ap e (precision-form n (f .precision) ki (h .precision))
     ∙ (ap d (width-form (f .width) pr (h .width))
     ∙ (ap c (zero-form (f .zero) wi)

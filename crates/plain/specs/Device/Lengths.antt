@@ -8,7 +8,7 @@ use Rattle.frame.specs.declared.Mode.{Mode}
 use Rattle.grammar.specs.Grammar.{All, Digit, value, Number, Position, next, number, word, Width, implied, fixed, byArgument, byName, Precision, undotted, star, dot, FormatSpec, SpecText, formatSpec, unmodified, modifier, freeText, Tail, bare, colon, Element, run, opened, closed, placeholder}
 use Rattle.grammar.specs.Grammar.{FitsPosition, writtenPosition, writtenWidth, FitsWidth, writtenPrecision, FitsPrecision, writtenFormat, FitsFormat, writtenSpec, writtenTail, FitsTail, written, Fits, writtenAll, FitsAll}
 use Rattle.grammar.specs.Pieces.{size}
-use Rattle.grammar.specs.Device.Splits.{Splits, lead-split, sign-split, flag-split, kind-split, format-split}
+use Rattle.grammar.specs.Device.Splits.{Splits, lead-split, sign-split, flag-split, typing-split, format-split}
 use Rattle.grammar.specs.Device.Stands.{ascii, size-append, size-split}
 use Rattle.plain.specs.Device.Digits.{digits-spell, no-longer}
 use Rattle.plain.specs.Device.Elements.{leading, following, plainWidth, plainPrecision, plainPosition, plainFormat, unlessBlank, plainTail, plainElement, plainly}
@@ -66,7 +66,7 @@ format-short f t u v h k =
     (kept (sign-split (f .sign)) _ _
     (kept (flag-split 0x23 (f .alternate)) _ _
     (kept (flag-split 0x30 (f .zero)) _ _
-    (width-short (f .width) _ _ (h .width) (precision-short (f .precision) _ _ (h .precision) (kept (kind-split (f .kind)) t u k))))))
+    (width-short (f .width) _ _ (h .width) (precision-short (f .precision) _ _ (h .precision) (kept (typing-split (f .typing)) t u k))))))
 
 -- no colon without a spec
 unless-short : (s : SpecText) (x u : List ℕ) (n : ℕ) → size u ≤ n → size (0x3A ∷ writtenSpec s u) ≤ n → size (writtenTail (unlessBlank s x) u) ≤ n

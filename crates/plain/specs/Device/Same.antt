@@ -5,8 +5,8 @@ use mathlib.Core.List.{List, [], _∷_, _++_}
 use Prim.Native.Nat.{ℕ}
 use Rattle.frame.specs.declared.Mode.{Mode}
 use Rattle.scan.specs.declared.Numeral.{Numeral}
-use Rattle.grammar.specs.Grammar.{value, Number, Position, next, number, word, Lead, unaligned, aligned, filled, Signed, unsigned, plus, minus, Width, implied, fixed, byArgument, byName, Precision, undotted, star, dot, Kind, untyped, debug, hexDebug, hex, typed, FormatSpec, formatSpec, unmodified, modifier, freeText, Tail, bare, colon, Element, run, opened, closed, placeholder}
-use Rattle.grammar.specs.Grammar.{FitsPosition, writtenLead, writtenSign, writtenFlag, writtenWidth, FitsWidth, writtenPrecision, FitsPrecision, writtenKind, writtenFormat, FitsFormat, FitsSpec, FitsTail, FitsAll, utf8}
+use Rattle.grammar.specs.Grammar.{value, Number, Position, next, number, word, Lead, unaligned, aligned, filled, Signed, unsigned, plus, minus, Width, implied, fixed, byArgument, byName, Precision, undotted, star, dot, Typing, untyped, debug, hexDebug, hex, typed, FormatSpec, formatSpec, unmodified, modifier, freeText, Tail, bare, colon, Element, run, opened, closed, placeholder}
+use Rattle.grammar.specs.Grammar.{FitsPosition, writtenLead, writtenSign, writtenFlag, writtenWidth, FitsWidth, writtenPrecision, FitsPrecision, writtenTyping, writtenFormat, FitsFormat, FitsSpec, FitsTail, FitsAll, utf8}
 use Rattle.grammar.specs.Pieces.{pastPrecision, pastTail, past}
 use Rattle.grammar.specs.Device.Runs.{never}
 use Rattle.plain.specs.Said as S
@@ -71,12 +71,12 @@ precision-blank undotted t e = (refl, e)
 precision-blank star t e = absurd (never e)
 precision-blank (dot w) t e = absurd (never e)
 
-kind-blank : (x : Kind) → writtenKind x [] ≡ [] → x ≡ untyped
-kind-blank untyped e = refl
-kind-blank debug e = absurd (never e)
-kind-blank (hexDebug x) e = absurd (never e)
-kind-blank (hex x) e = absurd (never e)
-kind-blank (typed c r) e = absurd (never e)
+typing-blank : (x : Typing) → writtenTyping x [] ≡ [] → x ≡ untyped
+typing-blank untyped e = refl
+typing-blank debug e = absurd (never e)
+typing-blank (hexDebug x) e = absurd (never e)
+typing-blank (hex x) e = absurd (never e)
+typing-blank (typed c r) e = absurd (never e)
 
 module _ (n : ℕ) (f : FormatSpec) (e : writtenFormat f [] ≡ []) where
   format-blank : (ofFormat n f ≡ onlyType []) × (pastPrecision n (f .precision) ≡ n)
@@ -87,7 +87,7 @@ module _ (n : ℕ) (f : FormatSpec) (e : writtenFormat f [] ≡ []) where
       let z = flag-blank 0x30 (f .zero) _ (a .1) in
       let w = width-blank (f .width) _ (z .1) in
       let p = precision-blank (f .precision) _ (w .1) in
-      let k = kind-blank (f .kind) (p .1) in
+      let k = typing-blank (f .typing) (p .1) in
       (rw (l .0, s .0, a .0, z .0, w .0, p .0, k), rw (p .0))
 
 unless-same : (n : ℕ) (f : FormatSpec) (x : List ℕ) → (x ≡ [] → ofFormat n f ≡ onlyType []) → ofTail n (unlessBlank (formatSpec f) x) ≡ ofFormat n f

@@ -13,8 +13,8 @@ use Rattle.scan.specs.declared.Numeral.{Numeral}
 use Rattle.placeholder.specs.declared.Align.{Align}
 use Rattle.placeholder.specs.declared.Hex.{Hex}
 use Rattle.placeholder.specs.declared.Sign.{Sign}
-use Rattle.grammar.specs.Grammar.{value, Position, next, number, word, Lead, unaligned, aligned, filled, Width, implied, fixed, byArgument, byName, Precision, undotted, star, dot, Letter, lower, upper, letterChar, Kind, untyped, debug, hexDebug, hex, typed, FormatSpec, SpecText, formatSpec, unmodified, modifier, freeText, Tail, bare, colon, Inside, Element, run, opened, closed, placeholder}
-use Rattle.grammar.specs.Grammar.{writtenPosition, writtenWidth, writtenPrecision, writtenKind, fromWidth, writtenFormat, writtenSpec, writtenTail, writtenInside, written, writtenAll, utf8}
+use Rattle.grammar.specs.Grammar.{value, Position, next, number, word, Lead, unaligned, aligned, filled, Width, implied, fixed, byArgument, byName, Precision, undotted, star, dot, Letter, lower, upper, letterChar, Typing, untyped, debug, hexDebug, hex, typed, FormatSpec, SpecText, formatSpec, unmodified, modifier, freeText, Tail, bare, colon, Inside, Element, run, opened, closed, placeholder}
+use Rattle.grammar.specs.Grammar.{writtenPosition, writtenWidth, writtenPrecision, writtenTyping, fromWidth, writtenFormat, writtenSpec, writtenTail, writtenInside, written, writtenAll, utf8}
 use Rattle.grammar.specs.Pieces.{size, bytes, bytesAt, endOf, tailAt, widthAt, precisionAt, typeAt, pastTail, past, placeOf, alignOf, signOf, typeText, hexOf, fillOf, countOf, precisionOf, formatAt, specAt, afterPlace, argumentAt, pieceAt, piecesOf}
 use Rattle.grammar.specs.Device.Splits.{Splits, both, codes, position-split, lead-split, sign-split, flag-split, width-split, precision-split, split}
 use Rattle.grammar.specs.Device.Stands.{ascii, size-append}
@@ -46,12 +46,12 @@ ofPrecision n undotted = S.implied
 ofPrecision n star = S.byStar n
 ofPrecision n (dot w) = ofWidth w
 
-abbrev pub ofKind : Kind → List ℕ
-ofKind untyped = []
-ofKind debug = 0x3F ∷ []
-ofKind (hexDebug x) = 0x3F ∷ []
-ofKind (hex x) = letterChar x ∷ []
-ofKind (typed c r) = utf8 (c ∷ r)
+abbrev pub ofTyping : Typing → List ℕ
+ofTyping untyped = []
+ofTyping debug = 0x3F ∷ []
+ofTyping (hexDebug x) = 0x3F ∷ []
+ofTyping (hex x) = letterChar x ∷ []
+ofTyping (typed c r) = utf8 (c ∷ r)
 
 abbrev pub ofFormat : ℕ → FormatSpec → SaidSpec
 ofFormat n f =
@@ -61,10 +61,10 @@ ofFormat n f =
       sign = signOf (f .sign);
       alternate = f .alternate;
       zero = f .zero;
-      hex = hexOf (f .kind);
+      hex = hexOf (f .typing);
       width = ofWidth (f .width);
       precision = ofPrecision n (f .precision);
-      typetext = ofKind (f .kind);
+      typetext = ofTyping (f .typing);
     }
 
 -- a type's text and nothing else
@@ -167,15 +167,15 @@ module _ (t : List ℕ) where
   letter-on p lower u h = one-on p 0x78 u (omega arith) h
   letter-on p upper u h = one-on p 0x58 u (omega arith) h
 
-  kind-said : (p : ℕ) (x : Kind) (u : List ℕ) → Stand t p (writtenKind x u) → textOf t (typeText p x) ≡ ofKind x
+  typing-said : (p : ℕ) (x : Typing) (u : List ℕ) → Stand t p (writtenTyping x u) → textOf t (typeText p x) ≡ ofTyping x
   unfolding utf8 encode pick
-  kind-said p untyped u h = no-text p
-  kind-said p debug u h = one-text p 0x3F u (omega arith) h
-  kind-said p (hexDebug x) u h =
+  typing-said p untyped u h = no-text p
+  typing-said p debug u h = one-text p 0x3F u (omega arith) h
+  typing-said p (hexDebug x) u h =
       let k : p + 2 ≡ p + 1 + 1 = omega arith in
       rw k (one-text (p + 1) 0x3F u (omega arith) (letter-on p x (0x3F ∷ u) h))
-  kind-said p (hex x) u h = letter-text p x u h
-  kind-said p (typed c r) u h = between p (c ∷ r) u h
+  typing-said p (hex x) u h = letter-text p x u h
+  typing-said p (typed c r) u h = between p (c ∷ r) u h
 
   -- A FORMAT SPEC
   format-said : (q p n : ℕ) (f : FormatSpec) (u : List ℕ) → Stand t p (writtenFormat f u) → saidSpec t (formatAt q p n f) ≡ ofFormat n f
@@ -183,15 +183,15 @@ module _ (t : List ℕ) where
   format-said q p n f u h =
       let s = both (lead-split (f .lead)) (both (sign-split (f .sign)) (both (flag-split 0x23 (f .alternate)) (flag-split 0x30 (f .zero)))) in
       let w : Stand t (widthAt p f) (fromWidth f u) = beyond s p (fromWidth f u) h in
-      let x : Stand t (precisionAt p f) (writtenPrecision (f .precision) (writtenKind (f .kind) u)) =
-      beyond (width-split (f .width)) (widthAt p f) (writtenPrecision (f .precision) (writtenKind (f .kind) u)) w
+      let x : Stand t (precisionAt p f) (writtenPrecision (f .precision) (writtenTyping (f .typing) u)) =
+      beyond (width-split (f .width)) (widthAt p f) (writtenPrecision (f .precision) (writtenTyping (f .typing) u)) w
       in
-      let k : Stand t (typeAt p f) (writtenKind (f .kind) u) = beyond (precision-split (f .precision)) (precisionAt p f) (writtenKind (f .kind) u) x in
+      let k : Stand t (typeAt p f) (writtenTyping (f .typing) u) = beyond (precision-split (f .precision)) (precisionAt p f) (writtenTyping (f .typing) u) x in
       cc (
         fill-said q p (f .lead),
         width-said q (widthAt p f) (f .width) _ w,
         precision-said q (precisionAt p f) n (f .precision) _ x,
-        kind-said (typeAt p f) (f .kind) u k,
+        typing-said (typeAt p f) (f .typing) u k,
       )
 
   spec-said : (q p n : ℕ) (x : SpecText) (u : List ℕ) → Stand t p (0x3A ∷ writtenSpec x u) → saidSpec t (specAt q p n x) ≡ ofSpec n x
