@@ -1,4 +1,4 @@
--- What the quick lane tells to be wrong: the word `_` in three places, and a closing brace that is missing. It is what the step found wrong.
+-- What is told to be wrong: the word `_` in three places, and a closing brace that is missing. It is what the step found wrong.
 -- Rests on Lane, writing's Noting, quick's Tellings and `laws`' FaultLaws.
 use Prim.Native.Nat.{ℕ, _+_, _*_, _≤_}
 use mathlib.Core.Path.{_≡_, refl, sym, ap, _∙_}

@@ -1,4 +1,4 @@
--- What is told, as it is written and noted, and a whole text. Rests on words' Layout, quick's Tellings, writing's StepsWritten and reading's Lists.
+-- What is told to be wrong, as it is noted; the lane; and a whole text. Rests on told's Told, quick's Tellings, writing's StepsWritten and reading's Lists.
 use Prim.Native.Nat.{ℕ, _+_, _*_, _≤_, _<_}
 use mathlib.Core.Path.{_≡_}
 use mathlib.Core.Bool.{true, false}

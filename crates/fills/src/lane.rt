@@ -83,7 +83,7 @@ fn literal_end(text: &[u8], at: TextPlace) -> TextPlace
     scan::string_end(quick::whole(text), TextPlace(near))
 }
 
-// The step where reading stands: passed where it is literal text, or a placeholder in which nothing is wrong.
+// The step where reading stands: passed where it is literal text without a doubled brace, or a placeholder that `flawless` tells.
 fn pass(text: &[u8], frame: Frame, state: State, n: usize, pieces: &mut [u32]) -> Passed
     requires { ⌜ Small (now text) frame × (state .next < 0xFFFFE) × (40 * (n + length (piecesOf (stepAt (now text) frame Modes.Format state))) ≤ length (now pieces)) ⌝ }
     ensures { λ r. ⌜ PassedBy (now (text .entry)) frame state n (now (pieces .entry)) r (now (pieces .exit)) ⌝ }
@@ -199,6 +199,7 @@ pub fn lane_in(
     }
 }
 
+// Where nothing is passed.
 fn unmoved(state: State, n: usize) -> Stopped
     ensures { λ r. ⌜ (r .state ≡ state) × (r .pieces ≡ n) × (r .given ≡ 0) ⌝ }
 {

@@ -150,7 +150,7 @@ fn put_missing(
 }
 
 // Whether nothing is wrong in what is told: most of it.
-pub fn is_flawless(told: PlaceholderTold) -> bool
+fn is_flawless(told: PlaceholderTold) -> bool
     ensures { λ r. ⌜ (r ≡ true → Flawless told) ⌝ }
 {
     let place = told.place;

@@ -1,5 +1,5 @@
 // A placeholder of Format mode in which nothing is wrong, told and written, each part as soon as it is told: most of what templates hold. It leaves off at the
-// first part that is another: a count by an argument, a name or a star, the word `_`, whitespace, a closing brace that is missing. `told` tells these, too.
+// first part that is another: a count by an argument, a name or a star, the word `_`, whitespace, a closing brace that is missing. `told` tells most of these.
 use frame::Frame;
 use frame::TextPlace;
 use placeholder::Align;
@@ -127,7 +127,7 @@ fn left_spec(at: usize) -> SpecTold
     }
 }
 
-// The spec from after its colon, told and written, up to its closing brace.
+// The spec from after its colon, told and written, up to its closing brace. Its marks are read as in `told`, in place: a call for both would stay a call.
 fn write_spec(
     out: &mut [u32],
     k: usize,

@@ -1,3 +1,3 @@
--- What the quick lane's numbers mean.
+-- What the numbers mean in which a placeholder is told.
 pub mod Tellings
 pub mod PartsTold

@@ -1,4 +1,4 @@
--- What each part of the quick lane tells: where it is told, the part's definition in `scan` or `placeholder` is this record. Rests on Tellings.
+-- What each part tells: where it is told, the part's definition in `scan` or `placeholder` is this record. Rests on Tellings.
 use Prim.Native.Nat.{ℕ, _+_, _≤_, _<_}
 use mathlib.Core.Path.{_≡_}
 use mathlib.Core.Bool.{Bool, true, false}

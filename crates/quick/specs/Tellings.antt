@@ -1,4 +1,4 @@
--- What the quick lane tells, in the records that `closing` reads. A tag of 9, and what is not `ok`, means nothing: it is not told.
+-- What is told of a placeholder, in the records that `closing` reads. A tag of 9, and what is not `ok`, means nothing: it is not told.
 use Prim.Native.Nat.{ℕ, _+_, _≤_}
 use mathlib.Core.Path.{_≡_}
 use mathlib.Core.Bool.{Bool, true}

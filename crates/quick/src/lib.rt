@@ -1,5 +1,5 @@
 // The parts of a placeholder of Format mode, told in plain numbers, with the faults that need no more than a look: a word `_`, and a closing brace
-// that is missing. What they tell is what `closing` reads, and what they do not tell is left to it. `fills` writes each part as soon as it is told.
+// that is missing. What they tell is what `closing` reads, and what they do not tell is left to it. `told` and `flawless` write each part as soon as it is told.
 use frame::TextPlace;
 use placeholder::Align;
 use placeholder::Sign;

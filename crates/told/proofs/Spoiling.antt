@@ -1,4 +1,4 @@
--- Numbers written over: what is laid leaves no more than itself, and so do parts one after another. Rests on Lane and words' Laid.
+-- Numbers written over: what is laid leaves no more than itself, and so do parts one after another. Rests on Told and words' Laid.
 use Prim.Native.Nat.{ℕ, _+_, _-_, _≤_}
 use mathlib.Core.Path.{_≡_, sym, ap, _∙_}
 use mathlib.Core.List.{List, _++_, append-assoc}

@@ -1,4 +1,4 @@
--- The numbers of what the quick lane tells, part by part: each part's four numbers are the layout's. Rests on Lane, quick's Tellings and words' Layout.
+-- The numbers of what is told, part by part: each part's four numbers are the layout's. Rests on Told, quick's Tellings and words' Layout.
 use Prim.Native.Nat.{ℕ, _+_, _≤_, _<_}
 use mathlib.Core.Path.{_≡_, refl, sym, ap, _∙_}
 use mathlib.Core.Bool.{Bool, true, false, true≢false}

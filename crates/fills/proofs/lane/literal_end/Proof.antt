@@ -1,7 +1,6 @@
 -- `fills::lane::literal_end` meets its contract: the first brace within sixteen bytes, or the end that a call finds from there on.
 use borrow.Author.Needs.{needs}
 use mathlib.Core.Path.{_∙_, ap}
-use native.Mathlib.Omega.{arith}
 use Rattle.frame.specs.Places.{place}
 use Rattle.scan.specs.Characters.{textEnd}
 use Rattle.fills.proofs.lane.literal_end.Statement.{statement}

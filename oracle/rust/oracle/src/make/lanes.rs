@@ -1,8 +1,11 @@
 //! What the ways of reading hand to each other: literals around the lengths of blocks, names that turn into
-//! other letters, placeholders that are sound up to their last byte, and lists without a record to spare.
+//! other letters, placeholders that are sound up to their last character, bytes that are not UTF-8 around
+//! the ends of blocks, and lists without a record to spare.
 
 use super::dice::Dice;
 use super::{Draft, frames};
+use crate::answer::Answer;
+use crate::case::LARGEST_ROOM;
 use std::io::{self, Write};
 
 /// Around the blocks of 8, 16 and 32 bytes.
@@ -28,22 +31,43 @@ pub fn write(seed: u64, count: usize, output: &mut impl Write) -> io::Result<()>
 }
 
 fn draft(dice: &mut Dice) -> Draft {
-    let text = text(dice);
-    let length = u16::try_from(text.len()).unwrap_or(u16::MAX);
-    let mut draft = Draft::plain(dice.pick(&[0, 0, 0, 0, 0, 0, 0, 1, 2]), text);
-    // a record for each byte, one less, or all the room there is
-    match dice.below(4) {
-        0 => draft.rooms = [length; 4],
-        1 => draft.rooms = [length.saturating_sub(1); 4],
-        _ => {}
+    let mut bytes = text(dice).into_bytes();
+    if dice.once_in(8) {
+        break_one(dice, &mut bytes);
     }
+    let mut draft = Draft::plain(dice.pick(&[0, 0, 0, 0, 0, 0, 0, 1, 2]), bytes);
     if dice.once_in(8) {
         frames::frame_anyhow(dice, &mut draft);
     }
+    lend_little(dice, &mut draft);
     draft
 }
 
-/// Up to eight elements, and sometimes the last of them without its last byte.
+/// Breaks a byte around the end of a block, from either end of the text.
+fn break_one(dice: &mut Dice, bytes: &mut [u8]) {
+    let far = dice.pick(&[0, 1, 7, 8, 15, 16, 30, 31, 32, 33, 34, 63, 64, 65]);
+    let place = if dice.once_in(2) { Some(far) } else { bytes.len().checked_sub(1 + far) };
+    if let Some(byte) = place.and_then(|place| bytes.get_mut(place)) {
+        *byte = dice.pick(&[0x80, 0xBF, 0xC3, 0xE6, 0xF0, 0xFF]);
+    }
+}
+
+/// Lists with a record for each byte, with one less, with as many records as are needed, or with all the
+/// room there is.
+fn lend_little(dice: &mut Dice, draft: &mut Draft) {
+    let length = u16::try_from(draft.text.len()).unwrap_or(u16::MAX);
+    match dice.below(5) {
+        0 => draft.rooms = [length; 4],
+        1 => draft.rooms = [length.saturating_sub(1); 4],
+        2 => {
+            let needed = Answer::to(&draft.case()).counts;
+            draft.rooms = needed.map(|needed| needed.min(LARGEST_ROOM.into()) as u16);
+        }
+        _ => {}
+    }
+}
+
+/// Up to eight elements, and sometimes the last of them without its last character.
 fn text(dice: &mut Dice) -> String {
     let mut text: String = (0..1 + dice.below(8)).map(|_| element(dice)).collect();
     if dice.once_in(4) {
