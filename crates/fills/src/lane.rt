@@ -1,6 +1,6 @@
 // The lane: literal text and placeholders of Format mode, one after another, each part written as soon as it is read. It stops where the text ends, where
 // something is wrong, and where it does not tell what stands there. No struct is lent from inside its loop to a call that stays one (docs/SPEED.md).
-use crate::step::put_wrongs;
+use crate::wrongs::put_wrongs;
 use frame::Frame;
 use frame::Mode;
 use frame::TextPlace;
@@ -147,7 +147,7 @@ fn lane(text: &[u8], frame: Frame, from: State, written: usize, pieces: &mut [u3
 }
 
 // Copies, for calls that stay calls: what is lent to one is kept in memory from where it is made on (docs/SPEED.md).
-fn own(frame: Frame) -> Frame
+fn own_frame(frame: Frame) -> Frame
     ensures { λ r. ⌜ r ≡ frame ⌝ }
 {
     let end = frame.end;
@@ -193,7 +193,7 @@ pub fn lane_in(
     ensures { λ r. ⌜ LaneRan (now (text .entry)) frame mode state n (now (pieces .entry)) r (now (pieces .exit)) ⌝ }
 {
     match mode {
-        Mode::Format => lane(quick::whole(text), own(frame), state, n, pieces),
+        Mode::Format => lane(quick::whole(text), own_frame(frame), state, n, pieces),
         Mode::InlineAsm => unmoved(state, n),
         Mode::Diagnostic => unmoved(state, n),
     }
@@ -244,7 +244,7 @@ fn write_open(
     if !told.ok {
         return write_step(
             quick::whole(text),
-            own(frame),
+            own_frame(frame),
             Mode::Format,
             own_state(state),
             pieces,
@@ -280,7 +280,7 @@ pub fn write_left(
     }
     write_step(
         quick::whole(text),
-        own(frame),
+        own_frame(frame),
         mode,
         own_state(state),
         pieces,

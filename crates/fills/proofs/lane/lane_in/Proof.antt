@@ -11,11 +11,11 @@ enum-told c = search needs
 whole-requires : tie.Need-whole-requires
 whole-requires c κs = search needs
 
-own-requires : tie.Need-own-requires
-own-requires c κs = search needs
+own-frame-requires : tie.Need-own-frame-requires
+own-frame-requires c κs = search needs
 
 lane-requires : tie.Need-lane-requires
-lane-requires c κs = rw (c .before .before .whole .ensures, c .before .own .ensures) (c .before .before .before .before .before .before .before .pre .0, rw (c .before .before .before .enum-told .given .1) at (c .before .before .before .before .before .before .before .pre .1))
+lane-requires c κs = rw (c .before .before .whole .ensures, c .before .own-frame .ensures) (c .before .before .before .before .before .before .before .pre .0, rw (c .before .before .before .enum-told .given .1) at (c .before .before .before .before .before .before .before .pre .1))
 
 enum-told-2 : tie.Need-enum-told-2
 enum-told-2 c = search needs
@@ -33,7 +33,7 @@ same-length : tie.Need-same-length
 same-length c = search needs
 
 returns : tie.Need-returns
-returns c = rw (c .before .before .before .before .before .before .enum-told .given .1) (rw (c .before .before .before .before .before .whole .ensures, c .before .before .before .before .own .ensures) at (c .before .before .lane .ensures))
+returns c = rw (c .before .before .before .before .before .before .enum-told .given .1) (rw (c .before .before .before .before .before .whole .ensures, c .before .before .before .before .own-frame .ensures) at (c .before .before .lane .ensures))
 
 returns-2 : tie.Need-returns-2
 returns-2 c = let a = c .before .before .before .before .before .args in let e = c .unmoved .ensures in unmoved-ran (now (a .text)) (a .frame) (a .mode) (a .state) (a .n) (now (a .pieces)) (e .0) (e .1) (e .2)
@@ -47,7 +47,7 @@ lane-in-spec =
     (tie.spec
     enum-told
     whole-requires
-    own-requires
+    own-frame-requires
     lane-requires
     enum-told-2
     unmoved-requires

@@ -24,8 +24,8 @@ returns c = rw (c .before .before .before .before .before .before .before .befor
 whole-requires : tie.Need-whole-requires
 whole-requires c κs = search needs
 
-own-requires : tie.Need-own-requires
-own-requires c κs = search needs
+own-frame-requires : tie.Need-own-frame-requires
+own-frame-requires c κs = search needs
 
 own-state-requires : tie.Need-own-state-requires
 own-state-requires c κs = search needs
@@ -36,7 +36,7 @@ own-extent-requires c κs = search needs
 write-step-requires : tie.Need-write-step-requires
 write-step-requires c κs =
     let p = c .before .before .before .before .before .before .before .before .before .before .before .pre in
-    rw (c .before .before .before .before .before .whole .ensures, c .before .before .before .before .own .ensures, c .before .before .before .own-state .ensures, c .own-extent .ensures) (p .0, p .1, p .2)
+    rw (c .before .before .before .before .before .whole .ensures, c .before .before .before .before .own-frame .ensures, c .before .before .before .own-state .ensures, c .own-extent .ensures) (p .0, p .1, p .2)
 
 same-length-3 : tie.Need-same-length-3
 same-length-3 c = search needs
@@ -45,7 +45,7 @@ same-length-4 : tie.Need-same-length-4
 same-length-4 c = search needs
 
 returns-2 : tie.Need-returns-2
-returns-2 c = rw (c .before .before .before .before .before .before .before .before .before .before .whole .ensures, c .before .before .before .before .before .before .before .before .before .own .ensures, c .before .before .before .before .before .before .before .before .own-state .ensures, c .before .before .before .before .before .own-extent .ensures) at (c .before .before .before .before .write-step .ensures)
+returns-2 c = rw (c .before .before .before .before .before .before .before .before .before .before .whole .ensures, c .before .before .before .before .before .before .before .before .before .own-frame .ensures, c .before .before .before .before .before .before .before .before .own-state .ensures, c .before .before .before .before .before .own-extent .ensures) at (c .before .before .before .before .write-step .ensures)
 
 pub write-left-spec : {M : Type 1} → statement M
 write-left-spec =
@@ -57,7 +57,7 @@ write-left-spec =
     same-length-2
     returns
     whole-requires
-    own-requires
+    own-frame-requires
     own-state-requires
     own-extent-requires
     write-step-requires

@@ -17,8 +17,8 @@ write-placeholder-requires c κs =
 whole-requires : tie.Need-whole-requires
 whole-requires c κs = search needs
 
-own-requires : tie.Need-own-requires
-own-requires c κs = search needs
+own-frame-requires : tie.Need-own-frame-requires
+own-frame-requires c κs = search needs
 
 own-state-requires : tie.Need-own-state-requires
 own-state-requires c κs = search needs
@@ -29,7 +29,7 @@ own-extent-requires c κs = search needs
 write-step-requires : tie.Need-write-step-requires
 write-step-requires c κs =
     let p = c .before .before .before .before .before .before .before .before .before .before .before .before .before .before .before .pre in
-    rw (c .before .before .before .before .before .whole .ensures, c .before .before .before .before .own .ensures, c .before .before .before .own-state .ensures, c .own-extent .ensures) (p .0, p .1, room-again (p .2) (c .before .before .before .before .before .before .before .before .before .pieces .given))
+    rw (c .before .before .before .before .before .whole .ensures, c .before .before .before .before .own-frame .ensures, c .before .before .before .own-state .ensures, c .own-extent .ensures) (p .0, p .1, room-again (p .2) (c .before .before .before .before .before .before .before .before .before .pieces .given))
 
 same-length : tie.Need-same-length
 same-length c = c .before .before .before .pieces2 .given ∙ c .before .before .before .before .before .before .before .before .before .before .before .before .before .before .pieces .given
@@ -42,7 +42,7 @@ returns c =
     let p = c .before .before .before .before .before .before .before .before .before .before .before .before .before .before .before .before .before .before .before .before .pre in
     let a = c .before .before .before .before .before .before .before .before .before .before .before .before .before .before .before .before .before .before .before .before .args in
     let w = c .before .before .before .before .before .before .before .before .before .before .before .before .before .before .before .write-placeholder .ensures in
-    left-over (now (a .text)) (a .frame) _ (a .state) (open-tried (now (a .text)) (a .frame) (a .state) (p .3) (p .4) (p .2) (w .0) (w .1)) (rw (c .before .before .before .before .before .before .before .before .before .before .whole .ensures, c .before .before .before .before .before .before .before .before .before .own .ensures, c .before .before .before .before .before .before .before .before .own-state .ensures, c .before .before .before .before .before .own-extent .ensures) at (c .before .before .before .before .write-step .ensures))
+    left-over (now (a .text)) (a .frame) _ (a .state) (open-tried (now (a .text)) (a .frame) (a .state) (p .3) (p .4) (p .2) (w .0) (w .1)) (rw (c .before .before .before .before .before .before .before .before .before .before .whole .ensures, c .before .before .before .before .before .before .before .before .before .own-frame .ensures, c .before .before .before .before .before .before .before .before .own-state .ensures, c .before .before .before .before .before .own-extent .ensures) at (c .before .before .before .before .write-step .ensures))
 
 after-told-requires : tie.Need-after-told-requires
 after-told-requires c κs = search needs
@@ -85,7 +85,7 @@ write-open-spec =
     (tie.spec
     write-placeholder-requires
     whole-requires
-    own-requires
+    own-frame-requires
     own-state-requires
     own-extent-requires
     write-step-requires

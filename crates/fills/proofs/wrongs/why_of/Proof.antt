@@ -1,10 +1,10 @@
--- `fills::step::why_of` meets its contract: it is the definition, test by test.
+-- `fills::wrongs::why_of` meets its contract: it is the definition, test by test.
 use borrow.Author.Needs.{needs}
 use borrow.Author.Tests.{eq-eqb, ne-eqb, not-true, not-false}
 use Rattle.utf8.specs.Choice.{pick}
 use Rattle.fills.specs.Lane.{whyTold}
-use Rattle.fills.proofs.step.why_of.Statement.{statement}
-use Rattle.fills.proofs.step.why_of.Tie as tie
+use Rattle.fills.proofs.wrongs.why_of.Statement.{statement}
+use Rattle.fills.proofs.wrongs.why_of.Tie as tie
 
 returns : tie.Need-returns
 unfolding whyTold pick

@@ -1,10 +1,10 @@
--- `fills::step::put_blank` meets its contract: nothing where the word is not `_`, else its record, after those that are written.
+-- `fills::wrongs::put_blank` meets its contract: nothing where the word is not `_`, else its record, after those that are written.
 use borrow.Author.Needs.{needs}
 use borrow.Author.Tests.{not-true, not-false}
 use denote.Ref.{now}
 use Rattle.fills.proofs.Wrongs.{blank-none, blank-room, blank-one}
-use Rattle.fills.proofs.step.put_blank.Statement.{statement}
-use Rattle.fills.proofs.step.put_blank.Tie as tie
+use Rattle.fills.proofs.wrongs.put_blank.Statement.{statement}
+use Rattle.fills.proofs.wrongs.put_blank.Tie as tie
 
 returns : tie.Need-returns
 returns c =

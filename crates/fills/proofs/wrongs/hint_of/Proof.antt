@@ -1,7 +1,7 @@
--- `fills::step::hint_of` meets its contract: it is the definition, sign by sign.
+-- `fills::wrongs::hint_of` meets its contract: it is the definition, sign by sign.
 use borrow.Author.Needs.{needs}
-use Rattle.fills.proofs.step.hint_of.Statement.{statement}
-use Rattle.fills.proofs.step.hint_of.Tie as tie
+use Rattle.fills.proofs.wrongs.hint_of.Statement.{statement}
+use Rattle.fills.proofs.wrongs.hint_of.Tie as tie
 
 enum-told : tie.Need-enum-told
 enum-told c = search needs

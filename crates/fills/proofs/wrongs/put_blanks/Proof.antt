@@ -1,9 +1,9 @@
--- `fills::step::put_blanks` meets its contract: the place's, the width's and the type's, one after the other.
+-- `fills::wrongs::put_blanks` meets its contract: the place's, the width's and the type's, one after the other.
 use mathlib.Core.Path.{_∙_}
 use denote.Ref.{now}
 use Rattle.fills.proofs.Wrongs.{place-room, width-room, type-room, blanks-noted}
-use Rattle.fills.proofs.step.put_blanks.Statement.{statement}
-use Rattle.fills.proofs.step.put_blanks.Tie as tie
+use Rattle.fills.proofs.wrongs.put_blanks.Statement.{statement}
+use Rattle.fills.proofs.wrongs.put_blanks.Tie as tie
 
 put-blank-requires : tie.Need-put-blank-requires
 put-blank-requires c κs =

@@ -1,10 +1,10 @@
--- `fills::step::put_wrongs` meets its contract: nothing where nothing is wrong, else the words `_`, and then what is said of a missing closing brace.
+-- `fills::wrongs::put_wrongs` meets its contract: nothing where nothing is wrong, else the words `_`, and then what is said of a missing closing brace.
 use borrow.Author.Needs.{needs}
 use mathlib.Core.Path.{_∙_}
 use denote.Ref.{now}
 use Rattle.fills.proofs.Wrongs.{wrongs-none, blanks-room, wrongs-closed, wrongs-room, wrongs-missing}
-use Rattle.fills.proofs.step.put_wrongs.Statement.{statement}
-use Rattle.fills.proofs.step.put_wrongs.Tie as tie
+use Rattle.fills.proofs.wrongs.put_wrongs.Statement.{statement}
+use Rattle.fills.proofs.wrongs.put_wrongs.Tie as tie
 
 is-flawless-requires : tie.Need-is-flawless-requires
 is-flawless-requires c κs = search needs

@@ -1,9 +1,9 @@
--- `fills::step::is_flawless` meets its contract: only where no test before it holds, and no word `_` is the type, is nothing wrong.
+-- `fills::wrongs::is_flawless` meets its contract: only where no test before it holds, and no word `_` is the type, is nothing wrong.
 use mathlib.Core.Path.{sym}
 use mathlib.Core.Bool.{true≢false}
 use borrow.Author.Tests.{not-true, not-false}
-use Rattle.fills.proofs.step.is_flawless.Statement.{statement}
-use Rattle.fills.proofs.step.is_flawless.Tie as tie
+use Rattle.fills.proofs.wrongs.is_flawless.Statement.{statement}
+use Rattle.fills.proofs.wrongs.is_flawless.Tie as tie
 
 returns : tie.Need-returns
 returns c e = absurd (true≢false (sym e))

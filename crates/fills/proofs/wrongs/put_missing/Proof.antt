@@ -1,4 +1,4 @@
--- `fills::step::put_missing` meets its contract: the record that the brace is missing, and then that of the sign, if something is said of it.
+-- `fills::wrongs::put_missing` meets its contract: the record that the brace is missing, and then that of the sign, if something is said of it.
 use borrow.Author.Needs.{needs}
 use mathlib.Core.Path.{ap, sym, _∙_}
 use denote.Ref.{now}
@@ -7,8 +7,8 @@ use Rattle.closing.specs.Recovery.{gapAt}
 use Rattle.closing.specs.Recovering.{isSilent}
 use Rattle.reading.specs.Faults.{gapFault, hintFault}
 use Rattle.fills.proofs.Wrongs.{missing-first, missing-silent, missing-next, missing-both}
-use Rattle.fills.proofs.step.put_missing.Statement.{statement}
-use Rattle.fills.proofs.step.put_missing.Tie as tie
+use Rattle.fills.proofs.wrongs.put_missing.Statement.{statement}
+use Rattle.fills.proofs.wrongs.put_missing.Tie as tie
 
 why-of-requires : tie.Need-why-of-requires
 why-of-requires c κs = search needs
