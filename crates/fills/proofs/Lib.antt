@@ -1,5 +1,5 @@
 -- Laws that the proofs of `fills` share.
-pub mod Wrongs
+pub mod ToldWrong
 pub mod Stepping
 pub mod Passing
 pub mod Ways

@@ -1,4 +1,4 @@
--- Steps of the lane: what is passed, what is left, and where it stops. Rests on Lane, Stepping, Spoiling and Wrongs, and on writing's Stepping.
+-- Steps of the lane: what is passed, what is left, and where it stops. Rests on Lane, Stepping, Spoiling and ToldWrong, and on writing's Stepping.
 use Prim.Native.Nat.{ℕ, _+_, _*_, _≤_, _<_}
 use mathlib.Core.Path.{_≡_, refl, sym, ap, _∙_}
 use mathlib.Core.Bool.{true, false, true≢false}
@@ -27,7 +27,7 @@ use Rattle.words.specs.Layout.{literalWords, argumentWords, pieceWords}
 use Rattle.told.specs.Told.{Put, Flawless, toldState}
 use Rattle.fills.specs.declared.lane.Passed.{Passed}
 use Rattle.fills.specs.Lane.{Tried, Clear, PassedBy}
-use Rattle.fills.proofs.Wrongs.{flawless-none, told-wrong}
+use Rattle.fills.proofs.ToldWrong.{flawless-none, told-wrong}
 use Rattle.fills.proofs.Stepping.{step-literal, step-open, step-told, told-on}
 
 module _ (t : List ℕ) (f : Frame) (s : State) (n : ℕ) (ps : List ℕ) where

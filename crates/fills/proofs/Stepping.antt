@@ -1,4 +1,4 @@
--- What is told as a step: its piece and its records; and what the step is, from the bytes there. Rests on Lane, Wrongs, quick's Tellings and writing's Noting.
+-- What is told as a step: its piece and its records; and what the step is, from the bytes there. Rests on Lane, ToldWrong, quick's Tellings and writing's Noting.
 use Prim.Native.Nat.{ℕ, _+_, _*_, _≤_, _<_}
 use mathlib.Core.Path.{_≡_, refl, sym, ap, _∙_}
 use mathlib.Core.Bool.{Bool, true, false}
@@ -31,7 +31,7 @@ use Rattle.writing.proofs.Noting.{noticed-same}
 use Rattle.told.specs.Told.{toldState}
 use Rattle.fills.specs.Lane.{toldSlots}
 use Rattle.told.proofs.Telling.{told-wants}
-use Rattle.fills.proofs.Wrongs.{told-wrong}
+use Rattle.fills.proofs.ToldWrong.{told-wrong}
 
 module _ (t : List ℕ) (f : Frame) where
   -- one that is told gives a piece and the records of what is told to be wrong

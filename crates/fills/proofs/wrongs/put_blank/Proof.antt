@@ -2,7 +2,7 @@
 use borrow.Author.Needs.{needs}
 use borrow.Author.Tests.{not-true, not-false}
 use denote.Ref.{now}
-use Rattle.fills.proofs.Wrongs.{blank-none, blank-room, blank-one}
+use Rattle.fills.proofs.ToldWrong.{blank-none, blank-room, blank-one}
 use Rattle.fills.proofs.wrongs.put_blank.Statement.{statement}
 use Rattle.fills.proofs.wrongs.put_blank.Tie as tie
 

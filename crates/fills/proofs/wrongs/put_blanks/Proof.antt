@@ -1,7 +1,7 @@
 -- `fills::wrongs::put_blanks` meets its contract: the place's, the width's and the type's, one after the other.
 use mathlib.Core.Path.{_∙_}
 use denote.Ref.{now}
-use Rattle.fills.proofs.Wrongs.{place-room, width-room, type-room, blanks-noted}
+use Rattle.fills.proofs.ToldWrong.{place-room, width-room, type-room, blanks-noted}
 use Rattle.fills.proofs.wrongs.put_blanks.Statement.{statement}
 use Rattle.fills.proofs.wrongs.put_blanks.Tie as tie
 

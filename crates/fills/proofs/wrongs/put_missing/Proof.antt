@@ -6,7 +6,7 @@ use Rattle.frame.specs.Places.{place}
 use Rattle.closing.specs.Recovery.{gapAt}
 use Rattle.closing.specs.Recovering.{isSilent}
 use Rattle.reading.specs.Faults.{gapFault, hintFault}
-use Rattle.fills.proofs.Wrongs.{missing-first, missing-silent, missing-next, missing-both}
+use Rattle.fills.proofs.ToldWrong.{missing-first, missing-silent, missing-next, missing-both}
 use Rattle.fills.proofs.wrongs.put_missing.Statement.{statement}
 use Rattle.fills.proofs.wrongs.put_missing.Tie as tie
 

@@ -2,7 +2,7 @@
 use borrow.Author.Needs.{needs}
 use mathlib.Core.Path.{_∙_}
 use denote.Ref.{now}
-use Rattle.fills.proofs.Wrongs.{wrongs-none, blanks-room, wrongs-closed, wrongs-room, wrongs-missing}
+use Rattle.fills.proofs.ToldWrong.{wrongs-none, blanks-room, wrongs-closed, wrongs-room, wrongs-missing}
 use Rattle.fills.proofs.wrongs.put_wrongs.Statement.{statement}
 use Rattle.fills.proofs.wrongs.put_wrongs.Tie as tie
 
