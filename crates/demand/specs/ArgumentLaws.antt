@@ -12,7 +12,7 @@ use Rattle.reading.specs.declared.Piece.{Piece}
 use Rattle.laws.specs.WantLaws.{larger-left, larger-right}
 use Rattle.grammar.specs.Numbering.{starNumber, placeNumber, numbers}
 use Rattle.grammar.specs.Spanless as S
-use Rattle.grammar.specs.Device.AnyFrame.{argument-wants}
+use Rattle.unique.specs.Device.AnyFrame.{argument-wants}
 
 -- each number is below another
 abbrev pub Below : ℕ → List ℕ → Type 0

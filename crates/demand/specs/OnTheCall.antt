@@ -22,7 +22,7 @@ use Rattle.reading.specs.Calls.{Read}
 use Rattle.grammar.specs.Grammar.{Element, Reading}
 use Rattle.grammar.specs.Demand.{Demand}
 use Rattle.grammar.specs.Numbering.{numbers}
-use Rattle.grammar.specs.Demand3 as D
+use Rattle.unique.specs.Demand3 as D
 use Rattle.grammar.specs.Spanless as S
 use Rattle.demand.specs.CallLaws.{is-utf8, counts-are, arguments-are, none-counted, held-pieces, held-errors, held-places, held-lines}
 use Rattle.demand.specs.ArgumentLaws.{Below, numbers-below, wants-spanless}

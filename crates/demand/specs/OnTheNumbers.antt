@@ -28,7 +28,7 @@ use Rattle.back.specs.Back.{pieceFrom, errorFrom, listFrom}
 use Rattle.back.specs.CallBack.{call-back}
 use Rattle.words.specs.Calls.{roomsIn, piecesIn, errorsIn, answerWords, isShort, Exported}
 use Rattle.grammar.specs.Demand.{Demand}
-use Rattle.grammar.specs.Demand3 as D
+use Rattle.unique.specs.Demand3 as D
 use Rattle.grammar.specs.Numbering.{numbers}
 use Rattle.demand.specs.ArgumentLaws.{Below, numbers-below}
 use Rattle.demand.specs.OnTheCall.{quoteFor, quote-is}

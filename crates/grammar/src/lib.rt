@@ -1,1 +1,1 @@
-// The grammar of document 01 and demand 3: definitions and theorems, in specs/. No code.
+// The grammar of document 01 and the page of demand 3: definitions, in specs/. No code.

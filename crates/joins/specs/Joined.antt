@@ -22,7 +22,7 @@ use Rattle.reading.specs.Wants.{wants}
 use Rattle.reading.specs.Answers.{answered, frameFor, modeOf, modeFor}
 use Rattle.reading.specs.Calls.{roomsOf, Read}
 use Rattle.laws.specs.BrokenLaws.{well-whole}
-use Rattle.grammar.specs.Device.Readings.{has-reading}
+use Rattle.unique.specs.Device.Readings.{has-reading}
 use Rattle.joins.specs.Joins.{join, textAll, joinAll, piecesOnly, Premise}
 use Rattle.joins.specs.Device.Bytes.{well-append}
 use Rattle.joins.specs.Device.Texts.{joined-errors, joined-pieces}

@@ -11,7 +11,7 @@ use Rattle.frame.specs.declared.Frame.{Frame}
 use Rattle.frame.specs.declared.Mode.{Mode}
 use Rattle.reading.specs.Lists.{pieces, errors}
 use Rattle.laws.specs.BrokenLaws.{well-whole}
-use Rattle.grammar.specs.Device.Readings.{has-reading}
+use Rattle.unique.specs.Device.Readings.{has-reading}
 use Rattle.plain.specs.Said.{SaidPiece, said}
 use Rattle.plain.specs.Plain.{plainForm}
 use Rattle.plain.specs.Device.Texts.{plain-well, plain-clean, plain-said, plain-short}

@@ -15,9 +15,9 @@ use Rattle.reading.specs.Lists.{pieces}
 use Rattle.laws.specs.BrokenLaws.{well-whole}
 use Rattle.grammar.specs.Grammar.{All, Lead, unaligned, aligned, filled, FormatSpec, formatSpec, unmodified, modifier, freeText, Tail, bare, colon, Element, run, opened, closed, placeholder, writtenPosition, writtenFormat, writtenTail, written, writtenAll}
 use Rattle.grammar.specs.Pieces.{endOf, past, fillOf, formatAt, afterPlace, tailAt, argumentAt, pieceAt, piecesOf}
-use Rattle.grammar.specs.Device.Runs.{caseB}
-use Rattle.grammar.specs.Device.Splits.{position-split, split}
-use Rattle.grammar.specs.Device.Readings.{has-reading, its-pieces}
+use Rattle.unique.specs.Device.Runs.{caseB}
+use Rattle.unique.specs.Device.Splits.{position-split, split}
+use Rattle.unique.specs.Device.Readings.{has-reading, its-pieces}
 use Rattle.pen.specs.Pens.{Fits}
 use Rattle.pen.specs.PenLaws.{encode-four}
 use Rattle.plain.specs.Said.{said}

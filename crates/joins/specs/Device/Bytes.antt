@@ -8,7 +8,7 @@ use Rattle.utf8.specs.Encode.{encode}
 use Rattle.utf8.specs.Table37.{WellFormed, none, more}
 use Rattle.frame.specs.declared.Mode.{Mode}
 use Rattle.grammar.specs.Grammar.{Alignment, left, right, center, alignChar, Element, run, opened, closed, placeholder, writtenPosition, writtenTail, written, writtenAll, utf8, Reading}
-use Rattle.grammar.specs.Device.Splits.{Splits, both, codes, code, position-split, tail-split, split}
+use Rattle.unique.specs.Device.Splits.{Splits, both, codes, code, position-split, tail-split, split}
 use Rattle.joins.specs.Joins.{EndsInColon, StartsWithAlign, Premise}
 use Rattle.joins.specs.Device.Elements.{joined, Blank, Apart, joined-written, joined-fits}
 

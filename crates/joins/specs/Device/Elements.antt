@@ -6,7 +6,7 @@ use Prim.Native.Nat.{ℕ}
 use native.Mathlib.Omega.{arith}
 use Rattle.frame.specs.declared.Mode.{Mode}
 use Rattle.grammar.specs.Grammar.{All, Plain, NextBrace, Alignment, left, right, center, alignChar, FormatSpec, formatSpec, unmodified, modifier, freeText, Tail, bare, colon, Element, run, opened, closed, placeholder, fromZero, writtenFormat, FitsFormat, writtenTail, FitsTail, written, Fits, writtenAll, FitsAll}
-use Rattle.grammar.specs.Device.Splits.{Splits, both, flag-split, width-split, precision-split, typing-split, format-split}
+use Rattle.unique.specs.Device.Splits.{Splits, both, flag-split, width-split, precision-split, typing-split, format-split}
 
 -- THE JOIN: a run that follows a literal is taken into it
 abbrev pub merged : Element → ℕ → List ℕ → List Element → List Element

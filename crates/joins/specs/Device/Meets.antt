@@ -14,8 +14,8 @@ use Rattle.utf8.specs.Encode.{encode}
 use Rattle.frame.specs.declared.Mode.{Mode}
 use Rattle.grammar.specs.Grammar.{Plain, Position, next, number, word, Width, implied, fixed, byArgument, byName, Precision, undotted, star, dot, SpecText, formatSpec, unmodified, modifier, freeText, Tail, bare, colon, Element, run, opened, closed, placeholder, writtenAll, utf8, Reading}
 use Rattle.grammar.specs.Pieces.{wide, size, endOf, tailAt, pastPrecision, pastSpec, pastTail, pastPosition, past, placeOf, countOf, precisionOf, formatAt, specAt, afterPlace, argumentAt, pieceAt, piecesOf}
-use Rattle.grammar.specs.Device.Splits.{split}
-use Rattle.grammar.specs.Device.Stands.{size-append, size-split}
+use Rattle.unique.specs.Device.Splits.{split}
+use Rattle.unique.specs.Device.Stands.{size-append, size-split}
 use Rattle.joins.specs.Joins.{implicitIn, starsIn, numberOfBoth, isDoubled, meeting, meet}
 use Rattle.joins.specs.Device.Elements.{joined, met}
 

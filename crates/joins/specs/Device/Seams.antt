@@ -7,7 +7,7 @@ use native.Mathlib.Omega.{arith}
 use lib.ListN.{length, length-append}
 use Rattle.frame.specs.declared.Mode.{Mode}
 use Rattle.grammar.specs.Grammar.{Element, Reading}
-use Rattle.grammar.specs.Examples.{no-readings}
+use Rattle.unique.specs.Examples.{no-readings}
 use Rattle.joins.specs.Joins.{EndsInColon, Premise}
 
 tail : {c d : ℕ} {r s : List ℕ} → c ∷ r ≡ d ∷ s → r ≡ s

@@ -10,7 +10,7 @@ use Rattle.reading.specs.Lists.{pieces, errors}
 use Rattle.laws.specs.BrokenLaws.{well-whole}
 use Rattle.grammar.specs.Grammar.{Element, Reading}
 use Rattle.grammar.specs.Pieces.{piecesOf}
-use Rattle.grammar.specs.Device.Readings.{has-reading, no-error, its-pieces}
+use Rattle.unique.specs.Device.Readings.{has-reading, no-error, its-pieces}
 use Rattle.joins.specs.Joins.{numberOfBoth, isDoubled, join, Premise}
 use Rattle.joins.specs.Device.Elements.{joined}
 use Rattle.joins.specs.Device.Bytes.{well-append, joined-reading}

@@ -18,9 +18,9 @@ use Rattle.frame.specs.declared.Mode.{Mode}
 use Rattle.grammar.specs.Grammar.{All, Digit, value, Number, Position, next, number, word, Lead, unaligned, aligned, filled, Signed, unsigned, plus, minus, Width, implied, fixed, byArgument, byName, Precision, undotted, star, dot, Typing, untyped, debug, hexDebug, hex, typed, FormatSpec, SpecText, formatSpec, unmodified, modifier, freeText, Tail, bare, colon, Element, run, opened, closed, placeholder}
 use Rattle.grammar.specs.Grammar.{FitsPosition, writtenPosition, writtenLead, writtenSign, writtenFlag, writtenWidth, FitsWidth, writtenPrecision, FitsPrecision, writtenTyping, writtenFormat, FitsFormat, writtenSpec, writtenTail, FitsTail, written, Fits, writtenAll, FitsAll, utf8}
 use Rattle.grammar.specs.Pieces.{wide}
-use Rattle.grammar.specs.Device.Bytes.{code-sequence}
-use Rattle.grammar.specs.Device.Splits.{format-split}
-use Rattle.grammar.specs.Device.Stands.{wide-some}
+use Rattle.unique.specs.Device.Bytes.{code-sequence}
+use Rattle.unique.specs.Device.Splits.{format-split}
+use Rattle.unique.specs.Device.Stands.{wide-some}
 use Rattle.plain.specs.Device.Digits.{digits-spell}
 use Rattle.plain.specs.Device.Elements.{leading, following, plainWidth, plainPrecision, plainPosition, plainFormat, unlessBlank, plainTail, plainElement, plainly}
 use Rattle.plain.specs.Device.Same.{is-format}

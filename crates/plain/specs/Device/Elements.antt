@@ -14,12 +14,12 @@ use Rattle.scan.specs.Words.{isDigit}
 use Rattle.frame.specs.declared.Mode.{Mode}
 use Rattle.grammar.specs.Grammar.{All, Space, Continue, Digit, NextBrace, value, Number, Position, next, number, word, Alignment, left, right, center, alignChar, Lead, unaligned, aligned, filled, Signed, unsigned, plus, minus, Width, implied, fixed, byArgument, byName, Precision, undotted, star, dot, Letter, lower, upper, letterChar, Typing, untyped, debug, hexDebug, hex, typed, FormatSpec, SpecText, formatSpec, unmodified, modifier, freeText, Tail, bare, colon, Inside, Element, run, opened, closed, placeholder}
 use Rattle.grammar.specs.Grammar.{FitsPosition, writtenLead, writtenSign, writtenFlag, writtenWidth, FitsWidth, writtenPrecision, FitsPrecision, writtenTyping, FitsTyping, fromZero, writtenFormat, FitsFormat, FitsSpec, FitsTail, writtenAll, FitsAll}
-use Rattle.grammar.specs.Device.Runs.{caseB, Begins, differs}
-use Rattle.grammar.specs.Device.Classes.{precisionFirst, widthFirst, precision-digit, start-digit, width-mark}
-use Rattle.grammar.specs.Device.Parser.{isSide, side}
-use Rattle.grammar.specs.Device.Made.{char-side, side-of}
-use Rattle.grammar.specs.Device.Given.{space-begins, typing-begins, precision-begins, width-begins, precision-dollar}
-use Rattle.grammar.specs.Device.Splits.{format-split}
+use Rattle.unique.specs.Device.Runs.{caseB, Begins, differs}
+use Rattle.unique.specs.Device.Classes.{precisionFirst, widthFirst, precision-digit, start-digit, width-mark}
+use Rattle.unique.specs.Device.Parser.{isSide, side}
+use Rattle.unique.specs.Device.Made.{char-side, side-of}
+use Rattle.unique.specs.Device.Given.{space-begins, typing-begins, precision-begins, width-begins, precision-dollar}
+use Rattle.unique.specs.Device.Splits.{format-split}
 use Rattle.pen.specs.Pens.{digits}
 use Rattle.plain.specs.Device.Digits.{first, others, digits-spell}
 

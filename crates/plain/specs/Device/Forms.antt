@@ -16,8 +16,8 @@ use Rattle.reading.specs.Lists.{gather}
 use Rattle.grammar.specs.Grammar.{All, Digit, Plain, value, Number, Position, next, number, word, left, right, center, Lead, unaligned, aligned, filled, Signed, unsigned, plus, minus, Width, implied, fixed, byArgument, byName, Precision, undotted, star, dot, lower, upper, Typing, untyped, debug, hexDebug, hex, typed, FormatSpec, SpecText, formatSpec, unmodified, modifier, freeText, Tail, bare, colon, Inside, Element, run, opened, closed, placeholder}
 use Rattle.grammar.specs.Grammar.{writtenPosition, FitsPosition, writtenLead, writtenSign, writtenFlag, writtenWidth, FitsWidth, writtenPrecision, FitsPrecision, writtenTyping, writtenFormat, FitsFormat, writtenSpec, writtenTail, FitsTail, written, Fits, writtenAll, FitsAll, utf8}
 use Rattle.grammar.specs.Pieces.{wide, past, pastTail, alignOf, signOf, hexOf}
-use Rattle.grammar.specs.Device.Splits.{format-split}
-use Rattle.grammar.specs.Device.Stands.{wide-some}
+use Rattle.unique.specs.Device.Splits.{format-split}
+use Rattle.unique.specs.Device.Stands.{wide-some}
 use Rattle.joins.specs.Device.Bytes.{utf8-append}
 use Rattle.pen.specs.Pens.{digits}
 use Rattle.plain.specs.Plain.{plainPlace, plainFill, plainAlign, plainSign, plainFlag, plainCount, after, plainHex, plainSpec, doubled, plainPiece, plainForm}

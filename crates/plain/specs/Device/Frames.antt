@@ -9,7 +9,7 @@ use Rattle.placeholder.specs.declared.Fill.{Fill}
 use Rattle.reading.specs.Lists.{pieces}
 use Rattle.reading.specs.declared.Piece.{Piece}
 use Rattle.grammar.specs.Spanless as N
-use Rattle.grammar.specs.Device.AnyFrame.{pieces-any}
+use Rattle.unique.specs.Device.AnyFrame.{pieces-any}
 use Rattle.plain.specs.Said.{saidFill, saidCount, saidPiece, said}
 
 module _ (t : List ℕ) where

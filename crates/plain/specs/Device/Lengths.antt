@@ -8,8 +8,8 @@ use Rattle.frame.specs.declared.Mode.{Mode}
 use Rattle.grammar.specs.Grammar.{All, Digit, value, Number, Position, next, number, word, Width, implied, fixed, byArgument, byName, Precision, undotted, star, dot, FormatSpec, SpecText, formatSpec, unmodified, modifier, freeText, Tail, bare, colon, Element, run, opened, closed, placeholder}
 use Rattle.grammar.specs.Grammar.{FitsPosition, writtenPosition, writtenWidth, FitsWidth, writtenPrecision, FitsPrecision, writtenFormat, FitsFormat, writtenSpec, writtenTail, FitsTail, written, Fits, writtenAll, FitsAll}
 use Rattle.grammar.specs.Pieces.{size}
-use Rattle.grammar.specs.Device.Splits.{Splits, lead-split, sign-split, flag-split, typing-split, format-split}
-use Rattle.grammar.specs.Device.Stands.{ascii, size-append, size-split}
+use Rattle.unique.specs.Device.Splits.{Splits, lead-split, sign-split, flag-split, typing-split, format-split}
+use Rattle.unique.specs.Device.Stands.{ascii, size-append, size-split}
 use Rattle.plain.specs.Device.Digits.{digits-spell, no-longer}
 use Rattle.plain.specs.Device.Elements.{leading, following, plainWidth, plainPrecision, plainPosition, plainFormat, unlessBlank, plainTail, plainElement, plainly}
 use Rattle.plain.specs.Device.Same.{is-format}

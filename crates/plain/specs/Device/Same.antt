@@ -8,7 +8,7 @@ use Rattle.scan.specs.declared.Numeral.{Numeral}
 use Rattle.grammar.specs.Grammar.{value, Number, Position, next, number, word, Lead, unaligned, aligned, filled, Signed, unsigned, plus, minus, Width, implied, fixed, byArgument, byName, Precision, undotted, star, dot, Typing, untyped, debug, hexDebug, hex, typed, FormatSpec, formatSpec, unmodified, modifier, freeText, Tail, bare, colon, Element, run, opened, closed, placeholder}
 use Rattle.grammar.specs.Grammar.{FitsPosition, writtenLead, writtenSign, writtenFlag, writtenWidth, FitsWidth, writtenPrecision, FitsPrecision, writtenTyping, writtenFormat, FitsFormat, FitsSpec, FitsTail, FitsAll, utf8}
 use Rattle.grammar.specs.Pieces.{pastPrecision, pastTail, past}
-use Rattle.grammar.specs.Device.Runs.{never}
+use Rattle.unique.specs.Device.Runs.{never}
 use Rattle.plain.specs.Said as S
 use Rattle.plain.specs.Device.Digits.{digits-spell}
 use Rattle.plain.specs.Device.Elements.{leading, following, plainWidth, plainPrecision, plainPosition, plainFormat, unlessBlank, plainTail, plainElement, plainly}

@@ -16,8 +16,8 @@ use Rattle.placeholder.specs.declared.Sign.{Sign}
 use Rattle.grammar.specs.Grammar.{value, Position, next, number, word, Lead, unaligned, aligned, filled, Width, implied, fixed, byArgument, byName, Precision, undotted, star, dot, Letter, lower, upper, letterChar, Typing, untyped, debug, hexDebug, hex, typed, FormatSpec, SpecText, formatSpec, unmodified, modifier, freeText, Tail, bare, colon, Inside, Element, run, opened, closed, placeholder}
 use Rattle.grammar.specs.Grammar.{writtenPosition, writtenWidth, writtenPrecision, writtenTyping, fromWidth, writtenFormat, writtenSpec, writtenTail, writtenInside, written, writtenAll, utf8}
 use Rattle.grammar.specs.Pieces.{size, bytes, bytesAt, endOf, tailAt, widthAt, precisionAt, typeAt, pastTail, past, placeOf, alignOf, signOf, typeText, hexOf, fillOf, countOf, precisionOf, formatAt, specAt, afterPlace, argumentAt, pieceAt, piecesOf}
-use Rattle.grammar.specs.Device.Splits.{Splits, both, codes, position-split, lead-split, sign-split, flag-split, width-split, precision-split, split}
-use Rattle.grammar.specs.Device.Stands.{ascii, size-append}
+use Rattle.unique.specs.Device.Splits.{Splits, both, codes, position-split, lead-split, sign-split, flag-split, width-split, precision-split, split}
+use Rattle.unique.specs.Device.Stands.{ascii, size-append}
 use Rattle.joins.specs.Device.Bytes.{utf8-append}
 use Rattle.joins.specs.Device.Meets.{utf8-length}
 use Rattle.pen.specs.Pens.{textOf}

@@ -9,7 +9,7 @@ use Rattle.frame.specs.declared.Mode.{Mode}
 use Rattle.reading.specs.Lists.{pieces, errors}
 use Rattle.laws.specs.BrokenLaws.{well-whole}
 use Rattle.grammar.specs.Grammar.{Element, writtenAll, utf8, Reading}
-use Rattle.grammar.specs.Device.Readings.{no-error, its-pieces}
+use Rattle.unique.specs.Device.Readings.{no-error, its-pieces}
 use Rattle.joins.specs.Device.Meets.{utf8-length}
 use Rattle.plain.specs.Said.{said}
 use Rattle.plain.specs.Plain.{plainForm}

@@ -15,12 +15,12 @@ use Rattle.letters.specs.Table.{member}
 use Rattle.scan.specs.Characters.{isPlain}
 use Rattle.scan.specs.Words.{isDigit}
 use Rattle.frame.specs.declared.Mode.{Mode}
 use Rattle.grammar.specs.Grammar.{All, Space, Brace, Plain, Number, Word, value, Position, next, number, word, Alignment, alignChar, Lead, unaligned, aligned, filled, Signed, unsigned, plus, minus, Width, implied, fixed, byArgument, byName, Precision, undotted, star, dot, Letter, lower, upper, letterChar, Typing, untyped, debug, hexDebug, hex, typed, FormatSpec, SpecText, formatSpec, unmodified, modifier, freeText, Tail, bare, colon, Inside, Element, run, opened, closed, placeholder}
 use Rattle.grammar.specs.Grammar.{writtenPosition, FitsPosition, writtenLead, writtenSign, writtenFlag, writtenWidth, FitsWidth, writtenPrecision, FitsPrecision, writtenTyping, FitsTyping, fromWidth, fromZero, writtenFormat, FitsFormat, writtenSpec, FitsSpec, writtenTail, FitsTail, writtenInside, FitsInside, written, Fits}
-use Rattle.grammar.specs.Device.Runs.{caseB, first, Passes, Stops, Begins, begins-stops, begins-map, take-run, drop-run, differs, never, and-left, and-right}
-use Rattle.grammar.specs.Device.Classes.{of-digit, of-digits, of-brace, of-plain, of-plains, of-next-brace, start-digit, or-left, or-right, ender, typingFirst, precisionFirst, widthFirst, hashFirst, signFirst, tailFirst, spaceFirst, ender-continue, ender-start, ender-digit, precision-digit, space-first-continue, space-first-start, space-first-digit, ender-mark, typing-mark, width-mark, hash-mark}
-use Rattle.grammar.specs.Device.Parser.{got, okNumber, okWord, positionOf, isSide, side, alignOf, leadOf, signOf, hashOf, zeroOf, numberOf, nameOf, widthOf, dotOf, precisionOf, okDebug, hexOf, typedOf, typingOf, t1, t2, t3, t4, t5, t6, t7, formatOf, modifierOf, specOf, tailOf, pastPosition, insideOf, piece, hashWord, rawAt, closeOf, insideStep, openStep, closeStep, step}
-use Rattle.grammar.specs.Device.Made.{side-char, char-side, side-of}
+use Rattle.unique.specs.Device.Runs.{caseB, first, Passes, Stops, Begins, begins-stops, begins-map, take-run, drop-run, differs, never, and-left, and-right}
+use Rattle.unique.specs.Device.Classes.{of-digit, of-digits, of-brace, of-plain, of-plains, of-next-brace, start-digit, or-left, or-right, ender, typingFirst, precisionFirst, widthFirst, hashFirst, signFirst, tailFirst, spaceFirst, ender-continue, ender-start, ender-digit, precision-digit, space-first-continue, space-first-start, space-first-digit, ender-mark, typing-mark, width-mark, hash-mark}
+use Rattle.unique.specs.Device.Parser.{got, okNumber, okWord, positionOf, isSide, side, alignOf, leadOf, signOf, hashOf, zeroOf, numberOf, nameOf, widthOf, dotOf, precisionOf, okDebug, hexOf, typedOf, typingOf, t1, t2, t3, t4, t5, t6, t7, formatOf, modifierOf, specOf, tailOf, pastPosition, insideOf, piece, hashWord, rawAt, closeOf, insideStep, openStep, closeStep, step}
+use Rattle.unique.specs.Device.Made.{side-char, char-side, side-of}
 
 -- NUMBERS AND WORDS
 number-ok : (d : ℕ) (ds : List ℕ) → Number d ds → okNumber d ds ≡ true

@@ -7,8 +7,8 @@ use Rattle.letters.specs.Questions.{isSpace, isStart, isContinue}
 use Rattle.scan.specs.Characters.{isPlain}
 use Rattle.scan.specs.Words.{isDigit}
 use Rattle.frame.specs.declared.Mode.{Mode}
 use Rattle.grammar.specs.Grammar.{value, Position, next, number, word, Alignment, left, right, center, Lead, unaligned, aligned, filled, Signed, unsigned, plus, minus, Width, implied, fixed, byArgument, byName, Precision, undotted, star, dot, Letter, lower, upper, Typing, untyped, debug, hexDebug, hex, typed, FormatSpec, SpecText, formatSpec, unmodified, modifier, freeText, Tail, bare, colon, Inside, Element, run, opened, closed, placeholder}
-use Rattle.grammar.specs.Device.Runs.{takeW, dropW, first}
+use Rattle.unique.specs.Device.Runs.{takeW, dropW, first}
 
 -- what a part took, what it left, and whether what it took is right
 pub record Got (A : Type 0) : Type 0 where

@@ -12,15 +12,15 @@ use Rattle.reading.specs.Lists.{pieces, errors}
 use Rattle.reading.specs.declared.Piece.{Piece}
 use Rattle.reading.specs.declared.ErrorRecord.{ErrorRecord}
 use Rattle.laws.specs.BrokenLaws.{well-whole}
 use Rattle.grammar.specs.Numbering.{numbers, UpFrom}
 use Rattle.grammar.specs.Demand.{Demand}
 use Rattle.grammar.specs.Ranges.{NoneOver}
 use Rattle.grammar.specs.Spanless as S
-use Rattle.grammar.specs.Device.Readings.{has-reading, no-error, its-pieces, only-one}
-use Rattle.grammar.specs.Device.Numbers.{numbered}
-use Rattle.grammar.specs.Device.Within.{none-over}
-use Rattle.grammar.specs.Device.Covering.{covered}
-use Rattle.grammar.specs.Device.AnyFrame.{pieces-any, kinds-any, quotes-any, numbers-any}
+use Rattle.unique.specs.Device.Readings.{has-reading, no-error, its-pieces, only-one}
+use Rattle.unique.specs.Device.Numbers.{numbered}
+use Rattle.unique.specs.Device.Within.{none-over}
+use Rattle.unique.specs.Device.Covering.{covered}
+use Rattle.unique.specs.Device.AnyFrame.{pieces-any, kinds-any, quotes-any, numbers-any}
 
 -- THE THEOREM, for a text that is UTF-8 as table 3-7 of the Unicode Standard has it (its cover holds of any bytes)
 pub demand : (text : List ℕ) (frame : Frame) (mode : Mode) → WellFormed text →

@@ -13,15 +13,15 @@ use Rattle.reading.specs.Lists.{gather, piecesOf as stepPieces, errors}
 use Rattle.laws.specs.ListLaws.{no-length, errors-length}
 use Rattle.reading.specs.declared.State.{State}
 use Rattle.reading.specs.declared.Step.{Step as ReadStep}
 use Rattle.grammar.specs.Grammar.{Element}
 use Rattle.grammar.specs.Pieces.{endOf, pieceAt, piecesOf}
-use Rattle.grammar.specs.Device.Runs.{never}
-use Rattle.grammar.specs.Device.Parser.{step, Answer, none, some, more, parse}
-use Rattle.grammar.specs.Device.Made.{step-made}
-use Rattle.grammar.specs.Device.Splits.{split}
-use Rattle.grammar.specs.Device.Unique.{caseS, step-shorter, parse-piece, parse-done, parse-wrong}
-use Rattle.grammar.specs.Device.Stands.{Stands, part-place}
-use Rattle.grammar.specs.Device.Steps.{Took, step-same}
+use Rattle.unique.specs.Device.Runs.{never}
+use Rattle.unique.specs.Device.Parser.{step, Answer, none, some, more, parse}
+use Rattle.unique.specs.Device.Made.{step-made}
+use Rattle.unique.specs.Device.Splits.{split}
+use Rattle.unique.specs.Device.Unique.{caseS, step-shorter, parse-piece, parse-done, parse-wrong}
+use Rattle.unique.specs.Device.Stands.{Stands, part-place}
+use Rattle.unique.specs.Device.Steps.{Took, step-same}
 
 -- of two lists that come to nothing neither has anything
 pub append-none : {A : Type 0} (xs ys : List A) → xs ++ ys ≡ [] → (xs ≡ []) × (ys ≡ [])

@@ -26,8 +26,8 @@ use Rattle.reading.specs.declared.Fault.{Fault}
 use Rattle.reading.specs.declared.Step.{Step}
 use Rattle.laws.specs.ListLaws.{faultsIn, faults-append, found-faults}
 use Rattle.laws.specs.RecordLaws.{kindOf, record-parts}
 use Rattle.grammar.specs.Cover.{Recorded}
-use Rattle.grammar.specs.Device.Runs.{caseB}
+use Rattle.unique.specs.Device.Runs.{caseB}
 
 -- a fault of another kind
 abbrev pub Other : Fault → Type 0

@@ -27,15 +27,15 @@ use Rattle.placeholder.specs.declared.format.AlignRead.{AlignRead}
 use Rattle.placeholder.specs.declared.format.SignRead.{SignRead}
 use Rattle.placeholder.specs.declared.format.WidthRead.{WidthRead}
 use Rattle.placeholder.specs.declared.format.PrecisionRead.{PrecisionRead}
 use Rattle.grammar.specs.Grammar.{Lead, Signed, Width, implied, fixed, byArgument, byName, Precision, dot, writtenFlag, writtenWidth}
 use Rattle.grammar.specs.Pieces.{wide, size, spanned, sideOf, alignOf as alignmentOf, signOf as signRecord, fillOf, countOf, widthSpan, precisionOf as precisionCount, precisionSpan, pastPrecision}
-use Rattle.grammar.specs.Device.Runs.{caseB, takeW, dropW, first}
-use Rattle.grammar.specs.Device.Parser.{Got, got, isSide, side, alignOf, leadOf, signOf, hashOf, zeroOf, okNumber, numberOf, widthOf, dotOf, precisionOf}
-use Rattle.grammar.specs.Device.Made.{width-made}
-use Rattle.grammar.specs.Device.Splits.{width-split}
-use Rattle.grammar.specs.Device.Spans.{between-present, across}
-use Rattle.grammar.specs.Device.Stands.{mark-wide, ascii, Stands, part-place, stands-end, is-at, consume-yes, consume-no, past-ascii}
-use Rattle.grammar.specs.Device.Words.{flawless, count-same}
+use Rattle.unique.specs.Device.Runs.{caseB, takeW, dropW, first}
+use Rattle.unique.specs.Device.Parser.{Got, got, isSide, side, alignOf, leadOf, signOf, hashOf, zeroOf, okNumber, numberOf, widthOf, dotOf, precisionOf}
+use Rattle.unique.specs.Device.Made.{width-made}
+use Rattle.unique.specs.Device.Splits.{width-split}
+use Rattle.unique.specs.Device.Spans.{between-present, across}
+use Rattle.unique.specs.Device.Stands.{mark-wide, ascii, Stands, part-place, stands-end, is-at, consume-yes, consume-no, past-ascii}
+use Rattle.unique.specs.Device.Words.{flawless, count-same}
 
 module _ (t : List ℕ) where
   -- SIGN

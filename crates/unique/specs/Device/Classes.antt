@@ -13,8 +13,8 @@ use Rattle.letters.specs.Questions.{isSpace, isStart, isContinue}
 use Rattle.letters.specs.QuestionLaws.{among, marks, space-no-continue, space-no-start, mark-no-continue, mark-no-start, mark-no-space, digit-no-start, digit-no-space}
 use Rattle.scan.specs.Characters.{isPlain}
 use Rattle.scan.specs.Words.{isDigit}
 use Rattle.grammar.specs.Grammar.{All, Digit, Brace, Plain, NextBrace}
-use Rattle.grammar.specs.Device.Runs.{caseB, Passes, Stops, differs}
+use Rattle.unique.specs.Device.Runs.{caseB, Passes, Stops, differs}
 
 -- DIGITS AND BRACES
 pub to-digit : (c : ℕ) → isDigit c ≡ true → Digit c

@@ -5,11 +5,11 @@ use Prim.Native.Nat.{ℕ, zero, suc, _<_}
 use lib.ListN.{length, length-append}
 use native.Mathlib.Omega.{arith}
 use Rattle.frame.specs.declared.Mode.{Mode}
 use Rattle.grammar.specs.Grammar.{Element, written, writtenAll, FitsAll}
-use Rattle.grammar.specs.Device.Parser.{Step, piece, done, wrong, step, Answer, none, some, more, parse}
-use Rattle.grammar.specs.Device.Made.{Good, step-made, step-done}
-use Rattle.grammar.specs.Device.Given.{step-given}
-use Rattle.grammar.specs.Device.Splits.{split, some-written}
+use Rattle.unique.specs.Device.Parser.{Step, piece, done, wrong, step, Answer, none, some, more, parse}
+use Rattle.unique.specs.Device.Made.{Good, step-made, step-done}
+use Rattle.unique.specs.Device.Given.{step-given}
+use Rattle.unique.specs.Device.Splits.{split, some-written}
 
 -- by cases on a step
 pub caseS : {P : Type 0} (s : Step) → ((e : Element) (t : List ℕ) → s ≡ piece e t → P) → (s ≡ done → P) → (s ≡ wrong → P) → P

@@ -10,13 +10,13 @@ use Rattle.frame.specs.declared.Mode.{Mode}
 use Rattle.reading.specs.Steps.{start, reading}
 use Rattle.reading.specs.Faults.{faultsOf}
 use Rattle.reading.specs.Lists.{gather, pieces, errors}
 use Rattle.grammar.specs.Grammar.{Element, writtenAll, utf8, Reading}
 use Rattle.grammar.specs.Pieces.{size, piecesOf}
-use Rattle.grammar.specs.Device.Parser.{Answer, none, some, parse}
-use Rattle.grammar.specs.Device.Unique.{sound, complete, unique}
-use Rattle.grammar.specs.Device.Stands.{wide-some, Stands, stands-size, stands-one}
-use Rattle.grammar.specs.Device.Whole.{Whole, errors-faults, faults-errors, whole}
-use Rattle.grammar.specs.Device.Bytes.{stands-in, codes, codes-text}
+use Rattle.unique.specs.Device.Parser.{Answer, none, some, parse}
+use Rattle.unique.specs.Device.Unique.{sound, complete, unique}
+use Rattle.unique.specs.Device.Stands.{wide-some, Stands, stands-size, stands-one}
+use Rattle.unique.specs.Device.Whole.{Whole, errors-faults, faults-errors, whole}
+use Rattle.unique.specs.Device.Bytes.{stands-in, codes, codes-text}
 
 -- codes are no more than their bytes
 few : (cs : List ℕ) → length cs ≤ size cs

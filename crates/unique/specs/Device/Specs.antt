@@ -28,17 +28,17 @@ use Rattle.placeholder.specs.declared.format.WidthRead.{WidthRead}
 use Rattle.placeholder.specs.declared.format.PrecisionRead.{PrecisionRead}
 use Rattle.placeholder.specs.declared.format.TypeRead.{TypeRead}
 use Rattle.placeholder.specs.declared.format.SpecRead.{SpecRead}
 use Rattle.grammar.specs.Grammar.{FormatSpec, SpecText, writtenLead, writtenSign, writtenFlag, writtenWidth}
 use Rattle.grammar.specs.Pieces.{size, widthAt, precisionAt, typeAt, countOf, widthSpan, precisionOf as precisionCount, precisionSpan, typeText, typeSpan, formatAt, specAt, typeOnly as typeRecord, pastPrecision, pastSpec}
-use Rattle.grammar.specs.Device.Runs.{caseB, and-left, and-right}
-use Rattle.grammar.specs.Device.Parser.{Got, widthOf, precisionOf, typingOf, t1, t2, t3, t4, t5, t6, formatOf, modifierOf, specOf}
-use Rattle.grammar.specs.Device.Made.{lead-spelled, sign-spelled, hash-spelled, zero-spelled, width-made, precision-made, typing-made}
-use Rattle.grammar.specs.Device.Splits.{Splits, both, lead-split, sign-split, flag-split, width-split, precision-split, typing-split}
-use Rattle.grammar.specs.Device.Stands.{Stands, text-place, text-left, size-split, part-place}
-use Rattle.grammar.specs.Device.Spans.{between-present}
-use Rattle.grammar.specs.Device.Words.{flawless}
-use Rattle.grammar.specs.Device.Parts.{lead-same, sign-same, hash-same, width-same, precision-same}
-use Rattle.grammar.specs.Device.Types.{type-none, type-some, typing-same}
+use Rattle.unique.specs.Device.Runs.{caseB, and-left, and-right}
+use Rattle.unique.specs.Device.Parser.{Got, widthOf, precisionOf, typingOf, t1, t2, t3, t4, t5, t6, formatOf, modifierOf, specOf}
+use Rattle.unique.specs.Device.Made.{lead-spelled, sign-spelled, hash-spelled, zero-spelled, width-made, precision-made, typing-made}
+use Rattle.unique.specs.Device.Splits.{Splits, both, lead-split, sign-split, flag-split, width-split, precision-split, typing-split}
+use Rattle.unique.specs.Device.Stands.{Stands, text-place, text-left, size-split, part-place}
+use Rattle.unique.specs.Device.Spans.{between-present}
+use Rattle.unique.specs.Device.Words.{flawless}
+use Rattle.unique.specs.Device.Parts.{lead-same, sign-same, hash-same, width-same, precision-same}
+use Rattle.unique.specs.Device.Types.{type-none, type-some, typing-same}
 
 -- before the flag `0`, and from there to the precision
 abbrev before : FormatSpec → List ℕ → List ℕ

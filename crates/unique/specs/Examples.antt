@@ -16,13 +16,13 @@ use Rattle.letters.specs.Table.{member}
 use Rattle.scan.specs.Characters.{isPlain}
 use Rattle.scan.specs.Words.{isDigit}
 use Rattle.frame.specs.declared.Mode.{Mode}
 use Rattle.grammar.specs.Grammar.{next, number, word, left, right, unaligned, aligned, filled, implied, fixed, byArgument, byName, undotted, star, dot, lower, untyped, hexDebug, modifier, freeText, bare, colon, Element, opened, writtenAll, utf8, Reading}
 use Rattle.grammar.specs.Cases.{held, format}
-use Rattle.grammar.specs.Device.Runs.{takeW, dropW}
-use Rattle.grammar.specs.Device.Unique.{sound, none-reads}
-use Rattle.grammar.specs.Device.Stands.{stands-one}
-use Rattle.grammar.specs.Device.Bytes.{stands-in}
-use Rattle.grammar.specs.Device.Parser.{none, some, okNumber, okWord, positionOf, hashWord, rawAt, side, alignOf, leadOf, signOf, hashOf, zeroOf, numberOf, nameOf, widthOf, dotOf, precisionOf, okDebug, hexOf, typedOf, typingOf, formatOf, modifierOf, specOf, tailOf, insideOf, closeOf, insideStep, openStep, closeStep, step, more, parse}
+use Rattle.unique.specs.Device.Runs.{takeW, dropW}
+use Rattle.unique.specs.Device.Unique.{sound, none-reads}
+use Rattle.unique.specs.Device.Stands.{stands-one}
+use Rattle.unique.specs.Device.Bytes.{stands-in}
+use Rattle.unique.specs.Device.Parser.{none, some, okNumber, okWord, positionOf, hashWord, rawAt, side, alignOf, leadOf, signOf, hashOf, zeroOf, numberOf, nameOf, widthOf, dotOf, precisionOf, okDebug, hexOf, typedOf, typingOf, formatOf, modifierOf, specOf, tailOf, insideOf, closeOf, insideStep, openStep, closeStep, step, more, parse}
 
 -- elements are a reading of a text, by computing
 has : (m : Mode) (t cs : List ℕ) (es : List Element) → utf8 cs ≡ t → parse m (suc (length cs)) cs ≡ some es → Reading m t es

@@ -21,9 +21,9 @@ use Rattle.frame.specs.declared.TextPlace.{TextPlace}
 use Rattle.letters.specs.Questions.{isSpace}
 use Rattle.scan.specs.Characters.{spacesPast, isPlain, textEnd, sees, isAt, consumed}
 use Rattle.scan.specs.declared.Consumed.{Consumed}
 use Rattle.grammar.specs.Pieces.{wide, size}
-use Rattle.grammar.specs.Device.Splits.{Splits}
-use Rattle.grammar.specs.Device.Runs.{caseB, takeW, dropW, first, Stops, take-drop}
+use Rattle.unique.specs.Device.Splits.{Splits}
+use Rattle.unique.specs.Device.Runs.{caseB, takeW, dropW, first, Stops, take-drop}
 
 -- a code takes a byte
 pub wide-some : (c : ℕ) → 0 < wide c

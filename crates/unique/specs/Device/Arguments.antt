@@ -24,16 +24,16 @@ use Rattle.placeholder.specs.declared.format.SpecRead.{SpecRead}
 use Rattle.placeholder.specs.declared.between.ArgumentRead.{ArgumentRead}
 use Rattle.reading.specs.Faults.{isClean, argumentSlots}
 use Rattle.reading.specs.declared.Fault.{Fault}
 use Rattle.grammar.specs.Grammar.{Position, next, number, word, Tail, bare, Inside, writtenPosition}
 use Rattle.grammar.specs.Pieces.{size, placeOf, afterPlace, pastTail, pastPosition, pastInside}
-use Rattle.grammar.specs.Device.Runs.{caseB, takeW, Stops, take-drop, drop-stops, and-left, and-right}
-use Rattle.grammar.specs.Device.Parser.{Got, got, positionOf, rawAt, specOf, tailOf, pastPosition as afterPosition, insideOf}
-use Rattle.grammar.specs.Device.Made.{position-made, tail-made}
-use Rattle.grammar.specs.Device.Splits.{both, codes, position-split, tail-split}
-use Rattle.grammar.specs.Device.Stands.{Stands, part-place, spaces-left, spaces-none, consume-yes, consume-no, past-ascii}
-use Rattle.grammar.specs.Device.Words.{flawless}
-use Rattle.grammar.specs.Device.Places.{IsFound, position-same}
-use Rattle.grammar.specs.Device.Specs.{spec-same}
+use Rattle.unique.specs.Device.Runs.{caseB, takeW, Stops, take-drop, drop-stops, and-left, and-right}
+use Rattle.unique.specs.Device.Parser.{Got, got, positionOf, rawAt, specOf, tailOf, pastPosition as afterPosition, insideOf}
+use Rattle.unique.specs.Device.Made.{position-made, tail-made}
+use Rattle.unique.specs.Device.Splits.{both, codes, position-split, tail-split}
+use Rattle.unique.specs.Device.Stands.{Stands, part-place, spaces-left, spaces-none, consume-yes, consume-no, past-ascii}
+use Rattle.unique.specs.Device.Words.{flawless}
+use Rattle.unique.specs.Device.Places.{IsFound, position-same}
+use Rattle.unique.specs.Device.Specs.{spec-same}
 
 -- nothing of a list is wrong
 unfoldable pub allClean : List Fault → Bool

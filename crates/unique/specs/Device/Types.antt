@@ -17,13 +17,13 @@ use Rattle.placeholder.specs.Types.{hexType, isHexOrHash, debugType, wordType, 
 use Rattle.placeholder.specs.declared.Hex.{Hex}
 use Rattle.placeholder.specs.declared.MaybeSpan.{MaybeSpan}
 use Rattle.placeholder.specs.declared.format.TypeRead.{TypeRead}
 use Rattle.grammar.specs.Grammar.{Letter, lower, upper, Typing, untyped, debug, hex}
 use Rattle.grammar.specs.Pieces.{size, bytes, bytesAt, present, letterOf, typeText, typeSpan, hexOf as hexRecord}
-use Rattle.grammar.specs.Device.Runs.{caseB, takeW, dropW, Stops}
-use Rattle.grammar.specs.Device.Parser.{Got, got, okWord, okDebug, hexOf, typedOf, typingOf}
-use Rattle.grammar.specs.Device.Stands.{Stands, is-at, consume-yes, consume-no, past-ascii}
-use Rattle.grammar.specs.Device.Spans.{between-present}
-use Rattle.grammar.specs.Device.Words.{flawless, clean-pick, empty, not-empty, past-word, word-none, wordOf, word-some}
+use Rattle.unique.specs.Device.Runs.{caseB, takeW, dropW, Stops}
+use Rattle.unique.specs.Device.Parser.{Got, got, okWord, okDebug, hexOf, typedOf, typingOf}
+use Rattle.unique.specs.Device.Stands.{Stands, is-at, consume-yes, consume-no, past-ascii}
+use Rattle.unique.specs.Device.Spans.{between-present}
+use Rattle.unique.specs.Device.Words.{flawless, clean-pick, empty, not-empty, past-word, word-none, wordOf, word-some}
 
 module _ (t : List ℕ) (f : Frame) where
   pub record TypingSame (at : TextPlace) (g : Got Typing) (r : TypeRead) : Type 0 where

@@ -18,13 +18,13 @@ use Rattle.scan.specs.declared.Numeral.{Numeral}
 use Rattle.placeholder.specs.Places.{placed, isR, rawPlace, wordAfter, wordPlace, placeRead}
 use Rattle.placeholder.specs.declared.position.Found.{Found}
 use Rattle.placeholder.specs.declared.position.PlaceRead.{PlaceRead}
 use Rattle.grammar.specs.Grammar.{value, Position, next, number, word}
 use Rattle.grammar.specs.Pieces.{wide, size, bytesAt}
-use Rattle.grammar.specs.Device.Runs.{caseB, takeW, dropW, Stops, take-drop, and-left, and-right}
-use Rattle.grammar.specs.Device.Parser.{Got, got, okNumber, okWord, positionOf, hashWord, rawAt}
-use Rattle.grammar.specs.Device.Given.{r-start}
-use Rattle.grammar.specs.Device.Stands.{mark-wide, wide-some, Stands, take-none, stands-past, consume-yes, consume-no, past-ascii}
-use Rattle.grammar.specs.Device.Words.{flawless, clean-pick, empty, not-empty, word-none, wordOf, word-some, number-none, numberAt, number-some, right-value, past-word}
+use Rattle.unique.specs.Device.Runs.{caseB, takeW, dropW, Stops, take-drop, and-left, and-right}
+use Rattle.unique.specs.Device.Parser.{Got, got, okNumber, okWord, positionOf, hashWord, rawAt}
+use Rattle.unique.specs.Device.Given.{r-start}
+use Rattle.unique.specs.Device.Stands.{mark-wide, wide-some, Stands, take-none, stands-past, consume-yes, consume-no, past-ascii}
+use Rattle.unique.specs.Device.Words.{flawless, clean-pick, empty, not-empty, word-none, wordOf, word-some, number-none, numberAt, number-some, right-value, past-word}
 
 -- a place that was found is what is written at byte p
 abbrev pub IsFound : ℕ → Position → Found → Type 0

@@ -34,17 +34,17 @@ use Rattle.reading.specs.declared.State.{State}
 use Rattle.reading.specs.declared.Step.{Step as ReadStep}
 use Rattle.reading.specs.declared.Onward.{Onward}
 use Rattle.reading.specs.declared.Piece.{Piece}
 use Rattle.grammar.specs.Grammar.{Inside, Element, run, opened, closed, placeholder, written, writtenInside}
 use Rattle.grammar.specs.Pieces.{bytes, endOf, tailAt, spanned, argumentAt, pieceAt, past}
-use Rattle.grammar.specs.Device.Runs.{caseB, takeW, dropW, first, never, take-drop, and-left, and-right}
-use Rattle.grammar.specs.Device.Parser.{Got, rawAt, insideOf, Step, piece, done, wrong, closeOf, insideStep, openStep, closeStep, step}
-use Rattle.grammar.specs.Device.Made.{inside-made}
-use Rattle.grammar.specs.Device.Splits.{split}
-use Rattle.grammar.specs.Device.Stands.{Stands, part-place, text-left, consume-yes, consume-no, past-ascii}
-use Rattle.grammar.specs.Device.Words.{flawless}
-use Rattle.grammar.specs.Device.Places.{position-raw}
-use Rattle.grammar.specs.Device.Spans.{between}
-use Rattle.grammar.specs.Device.Arguments.{allClean, inside-same}
+use Rattle.unique.specs.Device.Runs.{caseB, takeW, dropW, first, never, take-drop, and-left, and-right}
+use Rattle.unique.specs.Device.Parser.{Got, rawAt, insideOf, Step, piece, done, wrong, closeOf, insideStep, openStep, closeStep, step}
+use Rattle.unique.specs.Device.Made.{inside-made}
+use Rattle.unique.specs.Device.Splits.{split}
+use Rattle.unique.specs.Device.Stands.{Stands, part-place, text-left, consume-yes, consume-no, past-ascii}
+use Rattle.unique.specs.Device.Words.{flawless}
+use Rattle.unique.specs.Device.Places.{position-raw}
+use Rattle.unique.specs.Device.Spans.{between}
+use Rattle.unique.specs.Device.Arguments.{allClean, inside-same}
 
 -- WHAT IS WRONG
 pub clean-none : (xs : List Fault) → allClean xs ≡ true → wrongOnes xs ≡ []

@@ -32,11 +32,11 @@ use Rattle.reading.specs.Lists.{gather, piecesOf, pieces, errors}
 use Rattle.reading.specs.declared.Fault.{Fault}
 use Rattle.reading.specs.declared.State.{State}
 use Rattle.reading.specs.declared.Step.{Step}
 use Rattle.grammar.specs.Grammar.{Brace, Plain}
 use Rattle.grammar.specs.Cover.{byteAt, Begins, View, Tiles, Lone, Covered}
-use Rattle.grammar.specs.Device.Runs.{caseB}
-use Rattle.grammar.specs.Device.Classes.{to-plain, to-brace}
-use Rattle.grammar.specs.Device.Alone.{Others, others-append, wrong-others, others-errors, Told, told-after, told-errors, placeholder-others}
+use Rattle.unique.specs.Device.Runs.{caseB}
+use Rattle.unique.specs.Device.Classes.{to-plain, to-brace}
+use Rattle.unique.specs.Device.Alone.{Others, others-append, wrong-others, others-errors, Told, told-after, told-errors, placeholder-others}
 
 -- A BYTE, where an ASCII character is and where it is not
 module _ (t : List ℕ) (at : TextPlace) (c : ℕ) (l : c < 0x80) where

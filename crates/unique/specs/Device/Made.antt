@@ -11,11 +11,11 @@ use Rattle.letters.specs.Questions.{isSpace, isStart, isContinue}
 use Rattle.scan.specs.Characters.{isPlain}
 use Rattle.scan.specs.Words.{isDigit}
 use Rattle.frame.specs.declared.Mode.{Mode}
 use Rattle.grammar.specs.Grammar.{All, Plain, NextBrace, Number, Word, value, Position, Alignment, left, right, center, alignChar, filled, byArgument, Letter, lower, upper, letterChar, Tail, Inside, Element}
 use Rattle.grammar.specs.Grammar.{writtenPosition, FitsPosition, writtenLead, writtenSign, writtenFlag, writtenWidth, FitsWidth, writtenPrecision, FitsPrecision, writtenTyping, FitsTyping, fromWidth, fromZero, writtenFormat, FitsFormat, writtenSpec, FitsSpec, writtenTail, FitsTail, writtenInside, FitsInside, written, Fits}
-use Rattle.grammar.specs.Device.Runs.{caseB, takeW, dropW, first, take-drop, take-passes, drop-stops, and-left, and-right}
-use Rattle.grammar.specs.Device.Classes.{to-digit, to-digits, to-plains, to-next-brace, plain-brace}
-use Rattle.grammar.specs.Device.Parser.{Got, okNumber, okWord, positionOf, isSide, side, alignOf, leadOf, signOf, hashOf, zeroOf, numberOf, nameOf, widthOf, dotOf, precisionOf, hexOf, typedOf, typingOf, t1, t2, t3, t4, t5, t6, formatOf, modifierOf, specOf, tailOf, pastPosition, insideOf, Step, piece, done, wrong, rawAt, closeOf, insideStep, openStep, closeStep, step}
+use Rattle.unique.specs.Device.Runs.{caseB, takeW, dropW, first, take-drop, take-passes, drop-stops, and-left, and-right}
+use Rattle.unique.specs.Device.Classes.{to-digit, to-digits, to-plains, to-next-brace, plain-brace}
+use Rattle.unique.specs.Device.Parser.{Got, okNumber, okWord, positionOf, isSide, side, alignOf, leadOf, signOf, hashOf, zeroOf, numberOf, nameOf, widthOf, dotOf, precisionOf, hexOf, typedOf, typingOf, t1, t2, t3, t4, t5, t6, formatOf, modifierOf, specOf, tailOf, pastPosition, insideOf, Step, piece, done, wrong, rawAt, closeOf, insideStep, openStep, closeStep, step}
 
 -- what a part gives is what it read, and fits where it is right
 pub record Made {A : Type 0} (wr : A → List ℕ → List ℕ) (ft : A → Type 0) (cs : List ℕ) (g : Got A) : Type 0 where

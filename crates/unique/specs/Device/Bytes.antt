@@ -18,9 +18,9 @@ use Rattle.utf8.specs.Encode.{encode, encodeAll}
 use Rattle.utf8.specs.EncodeLaws.{encoded}
 use Rattle.utf8.specs.declared.Sequence.{Sequence}
 use Rattle.utf8.specs.declared.Seen.the-variants.{Char}
 use Rattle.grammar.specs.Grammar.{utf8}
 use Rattle.grammar.specs.Pieces.{wide}
-use Rattle.grammar.specs.Device.Stands.{wide-some, Stands}
+use Rattle.unique.specs.Device.Stands.{wide-some, Stands}
 
 -- THE SEQUENCE that four bytes begin with, by the first byte's range, where there is one
 sequence2 : (b c d e : ℕ) → 0xC2 ≤ b → b < 0xE0 → (sequenceOf b c d e .width ≡ 0 → ⊥) → sequenceOf b c d e ≡ seq (code2 b c) 2

@@ -28,12 +28,12 @@ use Rattle.scan.specs.declared.Numeral.{Numeral}
 use Rattle.scan.specs.declared.Count.{Count}
 use Rattle.scan.specs.declared.CountRead.{CountRead}
 use Rattle.reading.specs.Faults.{isClean, flawFault}
 use Rattle.grammar.specs.Grammar.{value, Width}
 use Rattle.grammar.specs.Pieces.{wide, size, countOf}
-use Rattle.grammar.specs.Device.Runs.{caseB, takeW, dropW, Stops, take-drop}
-use Rattle.grammar.specs.Device.Parser.{Got, okNumber, okWord, numberOf, nameOf, widthOf}
-use Rattle.grammar.specs.Device.Spans.{between}
-use Rattle.grammar.specs.Device.Stands.{mark-wide, wide-some, Stands, run-none, stands-past, stands-end, chars, run-chars, run-place, is-at, consume-yes, consume-no, past-ascii}
+use Rattle.unique.specs.Device.Runs.{caseB, takeW, dropW, Stops, take-drop}
+use Rattle.unique.specs.Device.Parser.{Got, okNumber, okWord, numberOf, nameOf, widthOf}
+use Rattle.unique.specs.Device.Spans.{between}
+use Rattle.unique.specs.Device.Stands.{mark-wide, wide-some, Stands, run-none, stands-past, stands-end, chars, run-chars, run-place, is-at, consume-yes, consume-no, past-ascii}
 
 pick-not : {A : Type 0} (b : Bool) (x y : A) → pick (not b) x y ≡ pick b y x
 unfolding pick
