@@ -219,7 +219,7 @@ fn read_bare(text: &[u8], pieces: &mut [u32], errors: &mut [u32]) -> Answer
     requires { ⌜ Enough (length (now text)) (length (now pieces)) (length (now errors)) ⌝ }
     ensures { λ r. ⌜ ReadBare (now (text .entry)) (now (pieces .entry)) (now (pieces .exit)) (now (errors .entry)) (now (errors .exit)) r ⌝ }
 {
-    let checked = utf8::check(text);
+    let checked = utf8::check_in_place(text);
     if checked.valid < text.len() {
         return broken_at(checked.valid);
     }

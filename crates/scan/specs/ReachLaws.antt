@@ -16,7 +16,7 @@ use Rattle.utf8.specs.Chars.{Ch, ch, charsFrom, before, charsOf, takeWhile, dro
 use Rattle.utf8.specs.CharLaws.{peeked, ended, past-end, first, before-past, run-split}
 use Rattle.letters.specs.Questions.{isStart, isContinue, isSpace}
 use Rattle.utf8.specs.declared.Seen.{Seen}
-use Rattle.utf8.specs.declared.Seen.the-variants.{Char, End}
+use Rattle.utf8.specs.declared.Seen.the-variants.{Char}
 use Rattle.frame.specs.declared.TextPlace.{TextPlace}
 use Rattle.frame.specs.declared.Frame.{Frame}
 use Rattle.scan.specs.Characters.{isAt, width, pastAt, consumed, spacesPast, isPlain, textEnd}

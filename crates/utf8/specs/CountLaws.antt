@@ -2,22 +2,19 @@
 -- those that the check passes are all. Rests on Chars, CharLaws, Utf8Laws and BlockLaws.
 use Prim.Native.Nat.{ℕ, suc, _+_, _-_, _≤_, _<_}
 use mathlib.Core.Path.{_≡_, refl, sym, _∙_, ap}
-use mathlib.Core.Bool.{Bool, true, false}
 use mathlib.Core.List.{List, [], _∷_}
 use mathlib.Core.Logic.{_⊎_, inl, inr}
 use native.Mathlib.Omega.{arith}
 use borrow.Author.Tests.{leb-false, eq-eqb, ne-eqb, lt-ltb}
-use lib.Dec.{eqb}
 use lib.ListN.{length, getD, drop}
 use Rattle.utf8.specs.Choice.{pick}
 use Rattle.utf8.specs.Utf8.{sequenceAt, charOf, peekAt, validPrefix}
-use Rattle.utf8.specs.DecodeLaws.{sequence-room, decode-sequence}
+use Rattle.utf8.specs.DecodeLaws.{decode-sequence}
 use Rattle.utf8.specs.Chars.{Ch, charsFrom, before, charsOf}
-use Rattle.utf8.specs.CharLaws.{Peeked, peeked, First, first, before-more, ascii-char, places-on}
-use Rattle.utf8.specs.Utf8Laws.{validEnd, valid-least, valid-room}
+use Rattle.utf8.specs.CharLaws.{peeked, first, before-more, before-past, ascii-char, places-on}
+use Rattle.utf8.specs.Utf8Laws.{validEnd, valid-room, valid-past, valid-all}
 use Rattle.utf8.specs.Blocks.{howMany, isHigh}
 use Rattle.utf8.specs.BlockLaws.{how-many-none, valid-block}
-use Rattle.utf8.specs.declared.Seen.{Seen}
 use Rattle.utf8.specs.declared.Seen.the-variants.{Char}
 
 -- a character of w bytes at place i: it is one of those before any byte after i, and the others stand from past it on
@@ -72,3 +69,13 @@ all-before t (c ∷ cs) i e d h =
 -- IN A VALID TEXT the check passes every character
 pub all-passed : (t : List ℕ) → validPrefix t ≡ length t → length (charsOf t 0 (validPrefix t)) ≡ length (charsFrom t 0)
 all-passed t v = ap length (all-before t (charsFrom t 0) 0 (validPrefix t) refl (omega arith))
+
+-- a text that is all ASCII is UTF-8 to its end, and has as many characters as bytes
+pub ascii-checked : (t : List ℕ) → howMany isHigh t 0 (length t) ≡ 0 → (length t ≡ validPrefix t) × (length t ≡ length (charsOf t 0 (validPrefix t)))
+ascii-checked t z =
+    let n = length t in
+    let q : n - 0 ≡ n = omega arith in
+    let none : howMany isHigh t 0 (n - 0) ≡ 0 = rw q z in
+    let v : n ≡ validPrefix t = sym (valid-past t n (omega arith)) ∙ valid-to t 0 n (omega arith) (omega arith) none ∙ valid-all t in
+    let c = chars-to t (validPrefix t) 0 n (omega arith) (omega arith) (inr (omega (arith, v))) none in
+    (v, omega (arith, c, ap length (before-past t (validPrefix t) n (omega (arith, v)))))

@@ -60,6 +60,29 @@ pub fn check(text: &[u8]) -> Checked
     check_from(text, 0)
 }
 
+// The same, for a caller that mostly has short texts: one that is ASCII is told in place. A call would save and load a dozen registers, an eighth of what it takes
+// to read `{}`.
+pub fn check_in_place(text: &[u8]) -> Checked
+    ensures { λ r. ⌜ (r .valid ≡ validPrefix (now (text .entry))) × (r .chars ≡ length (charsOf (now (text .entry)) 0 (validPrefix (now (text .entry))))) ⌝ }
+{
+    let n = text.len();
+    if is_short_ascii(text) {
+        return Checked { valid: n, chars: n };
+    }
+    check(text)
+}
+
+// Whether a text is shorter than a block, and ASCII.
+fn is_short_ascii(text: &[u8]) -> bool
+    ensures { λ r. ⌜ (r ≡ true → howMany isHigh (now (text .entry)) 0 (length (now (text .entry))) ≡ 0) ⌝ }
+{
+    let n = text.len();
+    if 32 <= n {
+        return false;
+    }
+    ascii_bytes(text, 0, n) == n
+}
+
 // The check goes on at `at`, where it stood: to where the well-formed sequences from there end, with the characters that it passed.
 pub fn check_from(text: &[u8], at: usize) -> Checked
     ensures { λ r. ⌜ (r .valid ≡ validEnd (now (text .entry)) at) × (r .chars ≡ length (charsOf (now (text .entry)) at (validEnd (now (text .entry)) at))) ⌝ }

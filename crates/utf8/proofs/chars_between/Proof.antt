@@ -2,8 +2,8 @@
 -- turn passes blocks of ASCII and one character more; the loop stops at `end` or at the end of the text, where none is left. The measure is what
 -- is left of the text. Assumes nothing.
 use borrow.Author.Needs.{needs}
-use Prim.Native.Nat.{ℕ, suc, _+_, _-_, _≤_, _<_}
-use mathlib.Core.Path.{_≡_, refl, sym, _∙_, ap}
+use Prim.Native.Nat.{ℕ, _+_, _-_, _≤_}
+use mathlib.Core.Path.{_≡_, sym, ap}
 use mathlib.Core.List.{List}
 use mathlib.Core.Logic.{_⊎_, inl, inr}
 use native.Mathlib.Omega.{arith}
@@ -12,7 +12,7 @@ use denote.Ref.{now}
 use Rattle.utf8.specs.Chars.{charsOf}
 use Rattle.utf8.specs.CharLaws.{past-end, before-past, before-end}
 use Rattle.utf8.specs.Blocks.{howMany, isHigh}
-use Rattle.utf8.specs.CountLaws.{Passed, chars-to}
+use Rattle.utf8.specs.CountLaws.{chars-to}
 use Rattle.utf8.proofs.chars_between.Statement.{statement}
 use Rattle.utf8.proofs.chars_between.Tie as tie
 

@@ -2,7 +2,7 @@
 -- blocks of ASCII and one sequence more, and the bytes passed less those behind the first of their character, with the characters from `i` on, are the
 -- count from `at` on; the loop stops where there is no sequence. The measure is what is left of the text. Assumes nothing.
 use borrow.Author.Needs.{needs}
-use Prim.Native.Nat.{ℕ, suc, _+_, _-_, _≤_, _<_}
+use Prim.Native.Nat.{ℕ, _+_, _-_, _≤_, _<_}
 use mathlib.Core.Path.{_≡_, refl, sym, _∙_, ap}
 use mathlib.Core.List.{List}
 use mathlib.Core.Logic.{inr}
