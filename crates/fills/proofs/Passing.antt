@@ -5,11 +5,10 @@ use mathlib.Core.Bool.{true, false, true≢false}
 use mathlib.Core.List.{List}
 use native.Mathlib.Omega.{arith}
 use lib.ListN.{length, getD}
-use Rattle.frame.specs.Places.{place, rangeOf}
+use Rattle.frame.specs.Places.{place}
 use Rattle.frame.specs.declared.Frame.{Frame}
 use Rattle.frame.specs.declared.Mode.{Mode}
-use Rattle.frame.specs.declared.TextPlace.{TextPlace}
-use Rattle.scan.specs.Characters.{textEnd}
+use Rattle.frame.specs.declared.TextRange.{TextRange}
 use Rattle.closing.specs.Wholes.{placeholderRead}
 use Rattle.reading.specs.Faults.{stepSlots, wrong}
 use Rattle.reading.specs.Lists.{gather, piecesOf}
@@ -28,7 +27,7 @@ use Rattle.told.specs.Told.{Put, Flawless, toldState}
 use Rattle.fills.specs.declared.lane.Passed.{Passed}
 use Rattle.fills.specs.Lane.{Tried, Clear, PassedBy}
 use Rattle.fills.proofs.ToldWrong.{flawless-none, told-wrong}
-use Rattle.fills.proofs.Stepping.{step-literal, step-open, step-told, told-on}
+use Rattle.fills.proofs.Stepping.{step-open, step-told, told-on}
 
 module _ (t : List ℕ) (f : Frame) (s : State) (n : ℕ) (ps : List ℕ) where
   -- NOTHING WAS TRIED
@@ -54,18 +53,17 @@ module _ (t : List ℕ) (f : Frame) (s : State) (n : ℕ) (ps : List ℕ) where
   passed-on c w g = record { clear = λ _. c; wrote = λ _. w; given = λ _. g; tried = λ y. absurd (true≢false y) }
 
 -- LITERAL TEXT is passed
-module _ (t : List ℕ) (f : Frame) (s : State) (n : ℕ) (ps : List ℕ) (h : s .at .0 < length t) (o : getD t (s .at .0) 0 ≡ 0x7B → ⊥) (d : getD t (s .at .0) 0 ≡ 0x7D → ⊥) where
+module _ (t : List ℕ) (f : Frame) (s : State) (n : ℕ) (ps : List ℕ) {view : TextRange} (step : Step.Literal view ≡ stepAt t f Mode.Format s) where
   pub literal-fits : 40 * (n + length (piecesOf (stepAt t f Mode.Format s))) ≤ length ps → 40 * n + 40 ≤ length ps
-  literal-fits r = let q = rw (← step-literal t f Mode.Format s h o d) at r in omega (arith, q)
+  literal-fits r = let q = rw (← step) at r in omega (arith, q)
 
-  pub literal-passed : {e : TextPlace} → e ≡ textEnd t (s .at) → {ps′ : List ℕ} → ps′ ≡ laid ps (40 * n) (literalWords (rangeOf (s .at) e)) →
-      PassedBy t f s n ps (record { on = true; state = stateOf e (s .next) (s .arguments); given = 0 }) ps′
+  pub literal-passed : {ps′ : List ℕ} → ps′ ≡ laid ps (40 * n) (literalWords view) →
+      PassedBy t f s n ps (record { on = true; state = stateOf (view .end) (s .next) (s .arguments); given = 0 }) ps′
   unfolding stepSlots wrong
-  literal-passed {e} q {ps′} w =
-      let step : Step.Literal (rangeOf (s .at) e) ≡ stepAt t f Mode.Format s = ap (λ (p : TextPlace). Step.Literal (rangeOf (s .at) p)) q ∙ step-literal t f Mode.Format s h o d in
+  literal-passed w =
       passed-on t f s n ps
       (record { clean = rw (← step) refl; goes = rw (← step) refl; one = rw (← step) refl })
-      (w ∙ ap (laid ps (40 * n)) (sym (gather-one pieceWords (Piece.Literal (rangeOf (s .at) e)))) ∙ ap (λ (y : Step). laid ps (40 * n) (gather pieceWords (piecesOf y))) step)
+      (w ∙ ap (laid ps (40 * n)) (sym (gather-one pieceWords (Piece.Literal view))) ∙ ap (λ (y : Step). laid ps (40 * n) (gather pieceWords (piecesOf y))) step)
       (rw (← step) refl)
 
 -- A PLACEHOLDER

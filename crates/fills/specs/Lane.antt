@@ -3,6 +3,7 @@ use Prim.Native.Nat.{ℕ, _+_, _*_, _≤_, _<_}
 use mathlib.Core.Path.{_≡_}
 use mathlib.Core.Bool.{true, false}
 use mathlib.Core.List.{List, [], _∷_, _++_}
+use mathlib.Core.Logic.{_⊎_}
 use lib.Dec.{eqb}
 use lib.ListN.{length, getD}
 use Rattle.utf8.specs.Choice.{pick}
@@ -54,6 +55,10 @@ pub record Open (t : List ℕ) (m : Mode) (at : ℕ) : Type 0 where
   pub mode : m ≡ Mode.Format
   pub brace : getD t at 0 ≡ 0x7B
   pub alone : getD t (at + 1) 0 ≡ 0x7B → ⊥
+
+-- TWO EQUAL BRACES stand at a byte
+abbrev pub Doubled : List ℕ → ℕ → Type 0
+Doubled t at = ((getD t at 0 ≡ 0x7B) × (getD t (at + 1) 0 ≡ 0x7B)) ⊎ ((getD t at 0 ≡ 0x7D) × (getD t (at + 1) 0 ≡ 0x7D))
 
 -- THE STEP WHERE THE LANE STOPPED: its own piece is yet to be laid over what was tried there
 pub record Tried (t : List ℕ) (f : Frame) (m : Mode) (s : State) (n : ℕ) (ps ps′ : List ℕ) : Type 0 where

@@ -4,6 +4,7 @@ use crate::wrongs::put_wrongs;
 use frame::Frame;
 use frame::Mode;
 use frame::TextPlace;
+use frame::TextRange;
 use reading::State;
 use told::parts::after_told;
 use told::whole::write_placeholder;
@@ -21,8 +22,9 @@ ghost use Rattle.frame.specs.declared.Mode.{Mode as Modes};
 ghost use Rattle.scan.specs.Characters.{textEnd};
 ghost use Rattle.reading.specs.Lists.{piecesOf};
 ghost use Rattle.reading.specs.Steps.{stepAt};
+ghost use Rattle.reading.specs.declared.Step.{Step as Steps};
 ghost use Rattle.writing.specs.StepsWritten.{StepRoom, SteppedOn};
-ghost use Rattle.fills.specs.Lane.{Open, PassedBy, LaneRoom, LaneRan};
+ghost use Rattle.fills.specs.Lane.{Open, Doubled, PassedBy, LaneRoom, LaneRan};
 
 // A step of the lane: whether it is passed, where reading then stands, and how many characters it gave back.
 pub struct Passed {
@@ -49,6 +51,42 @@ fn stay(state: State) -> Passed
     }
 }
 
+// The step that is literal text: its view is written.
+fn pass_literal(
+    text: &[u8],
+    frame: Frame,
+    state: State,
+    n: usize,
+    pieces: &mut [u32],
+    view: TextRange,
+) -> Passed
+    requires { ⌜ (Steps.Literal view ≡ stepAt (now text) frame Modes.Format state) × (40 * (n + length (piecesOf (stepAt (now text) frame Modes.Format state))) ≤ length (now pieces)) ⌝ }
+    ensures { λ r. ⌜ PassedBy (now (text .entry)) frame state n (now (pieces .entry)) r (now (pieces .exit)) ⌝ }
+{
+    let at = view.end;
+    put_literal(pieces, n, view.start.0, at.0);
+    Passed {
+        on: true,
+        state: State {
+            at,
+            next: state.next,
+            arguments: state.arguments,
+        },
+        given: 0,
+    }
+}
+
+// The step at the first of two braces: literal text, whose view starts at the second.
+fn pass_doubled(text: &[u8], frame: Frame, state: State, n: usize, pieces: &mut [u32]) -> Passed
+    requires { ⌜ Small (now text) frame × (40 * (n + length (piecesOf (stepAt (now text) frame Modes.Format state))) ≤ length (now pieces)) × Doubled (now text) (state .at .0) × (state .at .0 < length (now text)) ⌝ }
+    ensures { λ r. ⌜ PassedBy (now (text .entry)) frame state n (now (pieces .entry)) r (now (pieces .exit)) ⌝ }
+{
+    let i = state.at.0;
+    let start = TextPlace(i + 1);
+    let end = scan::string_end(quick::whole(text), TextPlace(i + 2));
+    pass_literal(text, frame, state, n, pieces, TextRange { start, end })
+}
+
 // The step at an opening brace.
 fn pass_brace(text: &[u8], frame: Frame, state: State, n: usize, pieces: &mut [u32]) -> Passed
     requires { ⌜ Small (now text) frame × (state .next < 0xFFFFE) × (40 * (n + length (piecesOf (stepAt (now text) frame Modes.Format state))) ≤ length (now pieces)) × (getD (now text) (state .at .0) 0 ≡ 0x7B) × (state .at .0 < length (now text)) ⌝ }
@@ -56,7 +94,7 @@ fn pass_brace(text: &[u8], frame: Frame, state: State, n: usize, pieces: &mut [u
 {
     let i = state.at.0;
     if utf8::byte(text, i + 1) == b'{' {
-        return stay(state);
+        return pass_doubled(text, frame, state, n, pieces);
     }
     let told = flawless::write(pieces, n, text, frame, i, state.next);
     if !told.ok {
@@ -83,7 +121,7 @@ fn literal_end(text: &[u8], at: TextPlace) -> TextPlace
     scan::string_end(quick::whole(text), TextPlace(near))
 }
 
-// The step where reading stands: passed where it is literal text without a doubled brace, or a placeholder that `flawless` tells.
+// The step where reading stands: passed where it is literal text, or a placeholder that `flawless` tells.
 fn pass(text: &[u8], frame: Frame, state: State, n: usize, pieces: &mut [u32]) -> Passed
     requires { ⌜ Small (now text) frame × (state .next < 0xFFFFE) × (40 * (n + length (piecesOf (stepAt (now text) frame Modes.Format state))) ≤ length (now pieces)) ⌝ }
     ensures { λ r. ⌜ PassedBy (now (text .entry)) frame state n (now (pieces .entry)) r (now (pieces .exit)) ⌝ }
@@ -98,19 +136,13 @@ fn pass(text: &[u8], frame: Frame, state: State, n: usize, pieces: &mut [u32]) -
         return pass_brace(text, frame, state, n, pieces);
     }
     if b == b'}' {
+        if utf8::byte(text, i + 1) == b'}' {
+            return pass_doubled(text, frame, state, n, pieces);
+        }
         return stay(state);
     }
     let end = literal_end(text, at);
-    put_literal(pieces, n, i, end.0);
-    Passed {
-        on: true,
-        state: State {
-            at: end,
-            next: state.next,
-            arguments: state.arguments,
-        },
-        given: 0,
-    }
+    pass_literal(text, frame, state, n, pieces, TextRange { start: at, end })
 }
 
 // Steps from where reading stands, as many as are passed one after another.

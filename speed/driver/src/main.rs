@@ -120,6 +120,17 @@ fn large_texts(reader: &mut Reader, goals: &mut Goals) {
     println!();
 }
 
+/// What no goal is set for, in nanoseconds a byte: where the Rust is ahead, it is to be seen.
+fn seldom_texts(reader: &mut Reader) {
+    println!("| met seldom, ns a byte | this | the Rust | {{fmt}} | sum of bytes | the Rust : this | |");
+    println!("|---|---|---|---|---|---|---|");
+    for text in texts::seldom(SIZE) {
+        let (ours, rust, cpp, sum) = measured(&text, reader, ROUNDS, 1);
+        row(text.name, text.bytes.len() as f64, ours, rust, cpp, sum, None);
+    }
+    println!();
+}
+
 /// Small texts with errors at the front: where the Rust's time grows with the square, ours must not be more at any size.
 fn front_errors(reader: &mut Reader, goals: &mut Goals) {
     println!("| errors at the front, ns a byte | this | the Rust | {{fmt}} | sum of bytes | the Rust : this | |");
@@ -196,6 +207,7 @@ fn main() -> std::io::Result<()> {
     large_texts(&mut reader, &mut goals);
     short_texts(&mut reader, &mut goals);
     front_errors(&mut reader, &mut goals);
+    seldom_texts(&mut reader);
     member_template(&mut reader);
     stack_of_a_call(&mut reader);
     goals.print();

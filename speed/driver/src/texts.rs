@@ -25,6 +25,24 @@ pub fn large(size: usize) -> Vec<Text> {
     ]
 }
 
+/// Lines with something in them that the lane leaves to other ways, or that is met seldom; no goals are set for them.
+pub fn seldom(size: usize) -> Vec<Text> {
+    let text = |name, part| Text { name, bytes: repeated(part, size) };
+    vec![
+        text("doubled braces", "Set {{a, b}} of {name} was read twice.\n"),
+        text("stars", "{:.*} {} {}\n"),
+        text("whitespace", "Sample {name } of {date : >9 } was read twice.\n"),
+        text("counts by argument", "Sample {:1$} of {:.1$} was read twice.\n"),
+        text("`0$` as the width", "Sample {:0$} of {name} was read twice.\n"),
+        text("counts by name", "Sample {:w$} of {:.p$} was read twice.\n"),
+        text("`x?`", "Sample {:x?} of {name} was read twice.\n"),
+        text("`.` alone", "Sample {:.} of {name} was read twice.\n"),
+        text("the name `r`", "Sample {r} of {name} was read twice.\n"),
+        text("over range", "Sample {99999} of {name} was read twice.\n"),
+        text("names in Thai and Hebrew", "Sample {ก} of {ש} was read twice.\n"),
+    ]
+}
+
 /// Short templates, of 40 to 200 bytes.
 pub fn short() -> Vec<Text> {
     let text = |name, line: &str| Text { name, bytes: line.as_bytes().to_vec() };
