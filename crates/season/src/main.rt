@@ -96,37 +96,32 @@ fn show(watched: bool, left: usize) {
     }
 }
 
-// A label and its total.
-fn line(label: &[u8], total: usize) {
-    io::write_all(STDOUT_FILENO, label);
-    io::print_decimal(STDOUT_FILENO, total as u64);
-    io::write_all(STDOUT_FILENO, b"\n");
-}
-
 // The totals, in the order of the request.
 fn report(totals: [usize; 24]) {
-    line(b"texts ", totals[0]);
-    line(b"refused ", totals[1]);
-    line(b"sound ", totals[2]);
-    line(b"literal ", totals[3]);
-    line(b"next ", totals[4]);
-    line(b"at ", totals[5]);
-    line(b"over ", totals[6]);
-    line(b"named ", totals[7]);
-    line(b"kind 1 ", totals[8]);
-    line(b"kind 2 ", totals[9]);
-    line(b"kind 3 ", totals[10]);
-    line(b"kind 4 ", totals[11]);
-    line(b"kind 5 ", totals[12]);
-    line(b"kind 6 ", totals[13]);
-    line(b"kind 7 ", totals[14]);
-    line(b"kind 8 ", totals[15]);
-    line(b"kind 9 ", totals[16]);
-    line(b"kind 10 ", totals[17]);
-    line(b"kind 11 ", totals[18]);
-    line(b"kind 12 ", totals[19]);
-    line(b"kind 13 ", totals[20]);
-    line(b"kind 14 ", totals[21]);
-    line(b"kind 15 ", totals[22]);
-    line(b"stars ", totals[23]);
+    page(
+        b"texts #\nrefused #\nsound #\nliteral #\nnext #\nat #\nover #\nnamed #\nkind 1 #\nkind 2 #\nkind 3 #\nkind 4 #\nkind 5 #\nkind 6 #\nkind 7 #\nkind 8 #\nkind 9 #\nkind 10 #\nkind 11 #\nkind 12 #\nkind 13 #\nkind 14 #\nkind 15 #\nstars #\n",
+        totals,
+    );
+}
+
+// A page whose every `#` stands for the next total.
+fn page(form: &[u8], totals: [usize; 24]) {
+    let mut next = 0;
+    let mut i = 0;
+    while i < form.len() {
+        next = put(form[i], totals, next);
+        i += 1;
+    }
+}
+
+// A byte of the page, or the total k in its place; which total comes next.
+fn put(byte: u8, totals: [usize; 24], k: usize) -> usize {
+    if byte == b'#' {
+        if k < 24 {
+            io::print_decimal(STDOUT_FILENO, totals[k] as u64);
+            return k + 1;
+        }
+    }
+    io::write_all(STDOUT_FILENO, &[byte]);
+    k
 }
