@@ -75,25 +75,47 @@ pub fn say_number(n: usize) {
     io::print_decimal(STDERR_FILENO, n as u64);
 }
 
-// An error's kind in words.
-fn say_kind(kind: u8) {
-    match kind {
-        1 => say(b"a lone `}`; write it twice to have one"),
-        2 => say(b"another character stands where a placeholder's `}` should"),
-        3 => say(b"the text ends where a placeholder's `}` should stand"),
-        4 => say(b"a name starts with `r#`"),
-        5 => say(b"`#`, `x` or `X` stands behind the `?`, and belongs before it"),
-        6 => say(b"`_` alone is no name"),
-        7 => say(b"a number is above 65,535"),
-        8 => say(b"`?:` stands where a placeholder's `}` should"),
-        9 => say(b"`?` without a `:` before it"),
-        10 => say(b"`=` stands before a placeholder's `}`"),
-        11 => say(b"`<`, `>` or `^` without a `:` before it"),
-        12 => say(b"`+` without a `:` before it"),
-        13 => say(b"a name, a dot and a name: fields are not read"),
-        14 => say(b"a name, a dot and a number: fields are not read"),
-        _ => say(b"`,` stands where a placeholder's `}` should"),
+// The line of that number, from 1, of lines that each end.
+fn say_line(lines: &[u8], number: usize) {
+    let mut line = 1;
+    let mut start = 0;
+    let mut i = 0;
+    while i < lines.len() {
+        if lines[i] == b'\n' {
+            if line == number {
+                say(&lines[start..i]);
+                return;
+            }
+            line += 1;
+            start = i + 1;
+        }
+        i += 1;
     }
+}
+
+// The piece that an error was found in, and its kind in words, a line for each from 1 on.
+fn say_found(piece: usize, kind: u8) {
+    say(b", the first in piece ");
+    say_number(piece);
+    say(b": ");
+    say_line(
+        b"a lone `}`; write it twice to have one\n\
+        another character stands where a placeholder's `}` should\n\
+        the text ends where a placeholder's `}` should stand\n\
+        a name starts with `r#`\n\
+        `#`, `x` or `X` stands behind the `?`, and belongs before it\n\
+        `_` alone is no name\n\
+        a number is above 65,535\n\
+        `?:` stands where a placeholder's `}` should\n\
+        `?` without a `:` before it\n\
+        `=` stands before a placeholder's `}`\n\
+        `<`, `>` or `^` without a `:` before it\n\
+        `+` without a `:` before it\n\
+        a name, a dot and a name: fields are not read\n\
+        a name, a dot and a number: fields are not read\n\
+        `,` stands where a placeholder's `}` should\n",
+        kind as usize,
+    );
 }
 
 // The first error that is found, of a text that has one.
@@ -120,10 +142,7 @@ fn say_error(text: &[u8], mode: u8) {
         return;
     }
     let error = first_error(text, frame, grammar);
-    say(b", the first in piece ");
-    say_number(error.piece);
-    say(b": ");
-    say_kind(error.kind);
+    say_found(error.piece, error.kind);
 }
 
 // Why a text has no plain form.

@@ -99,7 +99,11 @@ fn show(watched: bool, left: usize) {
 // The totals, in the order of the request.
 fn report(totals: [usize; 24]) {
     page(
-        b"texts #\nrefused #\nsound #\nliteral #\nnext #\nat #\nover #\nnamed #\nkind 1 #\nkind 2 #\nkind 3 #\nkind 4 #\nkind 5 #\nkind 6 #\nkind 7 #\nkind 8 #\nkind 9 #\nkind 10 #\nkind 11 #\nkind 12 #\nkind 13 #\nkind 14 #\nkind 15 #\nstars #\n",
+        b"texts #\nrefused #\nsound #\n\
+        literal #\nnext #\nat #\nover #\nnamed #\n\
+        kind 1 #\nkind 2 #\nkind 3 #\nkind 4 #\nkind 5 #\nkind 6 #\nkind 7 #\nkind 8 #\n\
+        kind 9 #\nkind 10 #\nkind 11 #\nkind 12 #\nkind 13 #\nkind 14 #\nkind 15 #\n\
+        stars #\n",
         totals,
     );
 }
