@@ -56,40 +56,51 @@ pub fn flush(out: &[u8], used: usize) {
     }
 }
 
-// Two numbers with a word between them.
-fn pair(out: &mut [u8], used: usize, a: usize, between: &[u8], b: usize) -> usize {
-    let n = number(out, used, a);
-    let n = words(out, n, between);
-    number(out, n, b)
+// A form with two numbers, the first in the place of its first `#`.
+pub fn pair(out: &mut [u8], used: usize, form: &[u8], first: usize, second: usize) -> usize {
+    let mut n = used;
+    let mut next = first;
+    let mut i = 0;
+    while i < form.len() {
+        if form[i] == b'#' {
+            n = number(out, n, next);
+            next = second;
+        } else {
+            n = byte(out, n, form[i]);
+        }
+        i += 1;
+    }
+    n
 }
 
-fn range(out: &mut [u8], used: usize, r: TextRange) -> usize {
-    pair(out, used, r.start.0, b" ", r.end.0)
+// A word, then a number.
+fn labelled(out: &mut [u8], used: usize, label: &[u8], value: usize) -> usize {
+    let n = words(out, used, label);
+    number(out, n, value)
 }
 
-fn span(out: &mut [u8], used: usize, s: Span) -> usize {
-    pair(out, used, s.start.0, b"..", s.end.0)
-}
-
-fn maybe_span(out: &mut [u8], used: usize, s: MaybeSpan) -> usize {
+// A word, then a span or `-`.
+fn maybe_span(out: &mut [u8], used: usize, label: &[u8], s: MaybeSpan) -> usize {
+    let n = words(out, used, label);
     match s {
-        MaybeSpan::Absent => byte(out, used, b'-'),
-        MaybeSpan::Present(x) => span(out, used, x),
+        MaybeSpan::Absent => byte(out, n, b'-'),
+        MaybeSpan::Present(x) => pair(out, n, b"#..#", x.start.0, x.end.0),
     }
 }
 
-fn maybe_range(out: &mut [u8], used: usize, r: MaybeRange) -> usize {
+fn quoted(out: &mut [u8], used: usize, r: MaybeRange) -> usize {
     match r {
-        MaybeRange::Absent => byte(out, used, b'-'),
-        MaybeRange::Present(x) => pair(out, used, x.start.0, b"..", x.end.0),
+        MaybeRange::Absent => words(out, used, b" quoted -"),
+        MaybeRange::Present(x) => pair(out, used, b" quoted #..#", x.start.0, x.end.0),
     }
 }
 
-// A number, or `over` where it is over range.
-fn numeral(out: &mut [u8], used: usize, n: Numeral) -> usize {
+// A word, then a number, or `over` where it is over range.
+fn numeral(out: &mut [u8], used: usize, label: &[u8], n: Numeral) -> usize {
+    let k = words(out, used, label);
     match n {
-        Numeral::Within(i) => number(out, used, i as usize),
-        Numeral::Over => words(out, used, b"over"),
+        Numeral::Within(i) => number(out, k, i as usize),
+        Numeral::Over => words(out, k, b"over"),
     }
 }
 
@@ -103,49 +114,33 @@ fn numbered(out: &mut [u8], used: usize, n: Numeral) -> usize {
 
 fn place(out: &mut [u8], used: usize, p: Place) -> usize {
     match p {
-        Place::Next(i) => {
-            let n = words(out, used, b"next ");
-            number(out, n, i)
-        }
+        Place::Next(i) => labelled(out, used, b"next ", i),
         Place::At(i) => numbered(out, used, i),
-        Place::Named(r) => {
-            let n = words(out, used, b"name ");
-            range(out, n, r)
-        }
+        Place::Named(r) => pair(out, used, b"name # #", r.start.0, r.end.0),
     }
+}
+
+fn by_name(out: &mut [u8], used: usize, r: TextRange, s: Span) -> usize {
+    let n = pair(out, used, b"name # #", r.start.0, r.end.0);
+    pair(out, n, b" #..#", s.start.0, s.end.0)
 }
 
 fn count(out: &mut [u8], used: usize, c: Count) -> usize {
     match c {
         Count::Implied => words(out, used, b"implied"),
-        Count::Fixed(i) => {
-            let n = words(out, used, b"fixed ");
-            numeral(out, n, i)
-        }
-        Count::ByName(r, s) => {
-            let n = words(out, used, b"name ");
-            let n = range(out, n, r);
-            let n = byte(out, n, b' ');
-            span(out, n, s)
-        }
-        Count::ByArgument(i) => {
-            let n = words(out, used, b"arg ");
-            numeral(out, n, i)
-        }
-        Count::ByStar(i) => {
-            let n = words(out, used, b"star ");
-            number(out, n, i)
-        }
+        Count::Fixed(i) => numeral(out, used, b"fixed ", i),
+        Count::ByName(r, s) => by_name(out, used, r, s),
+        Count::ByArgument(i) => numeral(out, used, b"arg ", i),
+        Count::ByStar(i) => labelled(out, used, b"star ", i),
     }
 }
 
 fn fill(out: &mut [u8], used: usize, f: Fill) -> usize {
     match f {
-        Fill::Absent => byte(out, used, b'-'),
+        Fill::Absent => words(out, used, b" fill -"),
         Fill::Present(code, s) => {
-            let n = number(out, used, code as usize);
-            let n = byte(out, n, b' ');
-            span(out, n, s)
+            let n = labelled(out, used, b" fill ", code as usize);
+            pair(out, n, b" #..#", s.start.0, s.end.0)
         }
     }
 }
@@ -182,42 +177,42 @@ fn flag(b: bool) -> usize {
     if b { 1 } else { 0 }
 }
 
-// A word, then a number.
-fn labelled(out: &mut [u8], used: usize, label: &[u8], value: usize) -> usize {
-    let n = words(out, used, label);
-    number(out, n, value)
-}
-
-// A word, then a span or `-`.
-fn labelled_span(out: &mut [u8], used: usize, label: &[u8], s: MaybeSpan) -> usize {
-    let n = words(out, used, label);
-    maybe_span(out, n, s)
-}
-
 // A word, then a count and its span.
 fn labelled_count(out: &mut [u8], used: usize, label: &[u8], c: Count, s: MaybeSpan) -> usize {
     let n = words(out, used, label);
     let n = count(out, n, c);
-    labelled_span(out, n, b" ", s)
+    maybe_span(out, n, b" ", s)
 }
 
 fn marks(out: &mut [u8], used: usize, align: Align, sign: Sign) -> usize {
-    let n = labelled(out, used, b" align ", align_number(align));
-    labelled(out, n, b" sign ", sign_number(sign))
+    pair(
+        out,
+        used,
+        b" align # sign #",
+        align_number(align),
+        sign_number(sign),
+    )
 }
 
 fn flags(out: &mut [u8], used: usize, alternate: bool, zero: bool, hex: Hex) -> usize {
-    let n = labelled(out, used, b" alt ", flag(alternate));
-    let n = labelled(out, n, b" zero ", flag(zero));
+    let n = pair(out, used, b" alt # zero #", flag(alternate), flag(zero));
     labelled(out, n, b" hex ", hex_number(hex))
 }
 
-fn spec(out: &mut [u8], used: usize, s: Spec) -> usize {
+// A spec's type, the last of its line.
+fn typed(out: &mut [u8], used: usize, name: TextRange, at: MaybeSpan) -> usize {
+    let n = pair(out, used, b" type # #", name.start.0, name.end.0);
+    let n = maybe_span(out, n, b" ", at);
+    byte(out, n, b'\n')
+}
+
+// Where an argument's place stands, and its spec.
+fn details(out: &mut [u8], used: usize, at: Span, s: Spec) -> usize {
     let filling = s.fill;
     let align = s.align;
     let sign = s.sign;
     let hex = s.hex;
-    let n = words(out, used, b" fill ");
+    let n = pair(out, used, b" span #..#", at.start.0, at.end.0);
     let n = fill(out, n, filling);
     let n = marks(out, n, align, sign);
     let n = flags(out, n, s.alternate, s.zero, hex);
@@ -230,109 +225,79 @@ fn counts(out: &mut [u8], used: usize, s: Spec) -> usize {
     let widthspan = s.widthspan;
     let precision = s.precision;
     let precisionspan = s.precisionspan;
-    let typetext = s.typetext;
     let typespan = s.typespan;
     let n = labelled_count(out, used, b" width ", width, widthspan);
     let n = labelled_count(out, n, b" precision ", precision, precisionspan);
-    let n = words(out, n, b" type ");
-    let n = range(out, n, typetext);
-    labelled_span(out, n, b" ", typespan)
+    typed(out, n, s.typetext, typespan)
 }
 
-fn argument(out: &mut [u8], used: usize, a: Argument) -> usize {
-    let placed = a.place;
-    let placespan = a.placespan;
-    let how = a.spec;
-    let bytes = a.range;
-    let n = words(out, used, b"arg ");
-    let n = range(out, n, bytes);
-    let n = byte(out, n, b' ');
-    let n = place(out, n, placed);
-    let n = words(out, n, b" span ");
-    let n = span(out, n, placespan);
-    let n = spec(out, n, how);
+// An argument's bytes and its place.
+fn placed(out: &mut [u8], used: usize, bytes: TextRange, at: Place) -> usize {
+    let n = pair(out, used, b"arg # # ", bytes.start.0, bytes.end.0);
+    place(out, n, at)
+}
+
+fn literal(out: &mut [u8], used: usize, r: TextRange) -> usize {
+    pair(out, used, b"lit # #\n", r.start.0, r.end.0)
+}
+
+// An argument's line.
+fn argument(out: &mut [u8], used: usize, full: bool, a: Argument) -> usize {
+    let at = a.place;
+    let n = placed(out, used, a.range, at);
+    if full {
+        return details(out, n, a.placespan, a.spec);
+    }
     byte(out, n, b'\n')
 }
 
-// A piece's line.
-pub fn piece(out: &mut [u8], used: usize, p: Piece) -> usize {
+// A piece's line: in short its bytes, and an argument's place.
+pub fn piece(out: &mut [u8], used: usize, full: bool, p: Piece) -> usize {
     match p {
-        Piece::Literal(r) => {
-            let n = words(out, used, b"lit ");
-            let n = range(out, n, r);
-            byte(out, n, b'\n')
-        }
-        Piece::Placeholder(a) => argument(out, used, a),
+        Piece::Literal(r) => literal(out, used, r),
+        Piece::Placeholder(a) => argument(out, used, full, a),
     }
 }
 
 // An error record's kind and span.
 fn error_head(out: &mut [u8], used: usize, kind: u8, at: Span) -> usize {
     let n = labelled(out, used, b"err ", kind as usize);
-    let n = byte(out, n, b' ');
-    span(out, n, at)
+    pair(out, n, b" #..#", at.start.0, at.end.0)
 }
 
 // An error record's line.
 pub fn error(out: &mut [u8], used: usize, e: ErrorRecord) -> usize {
-    let at = e.span;
     let second = e.second;
-    let quoted = e.quoted;
+    let quotation = e.quoted;
     let suggestion = e.suggestion;
-    let n = error_head(out, used, e.kind, at);
-    let n = labelled_span(out, n, b" second ", second);
-    let n = words(out, n, b" quoted ");
-    let n = maybe_range(out, n, quoted);
-    let n = labelled_span(out, n, b" suggestion ", suggestion);
-    let n = labelled(out, n, b" piece ", e.piece);
-    byte(out, n, b'\n')
+    let n = error_head(out, used, e.kind, e.span);
+    let n = maybe_span(out, n, b" second ", second);
+    let n = quoted(out, n, quotation);
+    let n = maybe_span(out, n, b" suggestion ", suggestion);
+    heading(out, n, b" piece ", e.piece)
 }
 
 // A line of an argument place or a line span: its label, start and end.
 pub fn pair_line(out: &mut [u8], used: usize, label: &[u8], start: usize, end: usize) -> usize {
     let n = words(out, used, label);
-    let n = pair(out, n, start, b"..", end);
-    byte(out, n, b'\n')
-}
-
-// A piece's line in the short listing: its bytes, and an argument's place.
-pub fn short_piece(out: &mut [u8], used: usize, p: Piece) -> usize {
-    match p {
-        Piece::Literal(r) => {
-            let n = words(out, used, b"lit ");
-            let n = range(out, n, r);
-            byte(out, n, b'\n')
-        }
-        Piece::Placeholder(a) => {
-            let placed = a.place;
-            let bytes = a.range;
-            let n = words(out, used, b"arg ");
-            let n = range(out, n, bytes);
-            let n = byte(out, n, b' ');
-            let n = place(out, n, placed);
-            byte(out, n, b'\n')
-        }
-    }
+    pair(out, n, b" #..#\n", start, end)
 }
 
 // An error record's line in the short listing: its kind, its span, and how many pieces were listed before it.
 pub fn short_error(out: &mut [u8], used: usize, e: ErrorRecord) -> usize {
     let at = e.span;
-    let n = number(out, used, e.kind as usize);
-    let n = byte(out, n, b' ');
-    let n = pair(out, n, at.start.0, b" ", at.end.0);
-    let n = labelled(out, n, b" ", e.piece);
-    byte(out, n, b'\n')
+    let n = pair(out, used, b"# #", e.kind as usize, at.start.0);
+    pair(out, n, b" # #\n", at.end.0, e.piece)
 }
 
 // A span's line in the short listing.
 pub fn short_pair(out: &mut [u8], used: usize, start: usize, end: usize) -> usize {
-    let n = pair(out, used, start, b" ", end);
-    byte(out, n, b'\n')
+    pair(out, used, b"# #\n", start, end)
 }
 
 // A word, a number and the line's end.
 pub fn heading(out: &mut [u8], used: usize, label: &[u8], value: usize) -> usize {
-    let n = labelled(out, used, label, value);
+    let n = words(out, used, label);
+    let n = number(out, n, value);
     byte(out, n, b'\n')
 }

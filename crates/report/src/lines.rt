@@ -6,34 +6,38 @@ use reading::Piece;
 
 // `answer`, the number, the place, the four counts, the arguments and the moves.
 pub fn answer_line(out: &mut [u8], used: usize, answer: Answer) -> usize {
-    let n = listing::words(out, used, b"answer ");
-    let n = listing::number(out, n, answer.number as usize);
-    let n = after_space(out, n, answer.place);
+    let n = listing::pair(
+        out,
+        used,
+        b"answer # #",
+        answer.number as usize,
+        answer.place,
+    );
     let n = four_counts(out, n, answer.counts);
-    let n = listing::words(out, n, b" arguments");
-    let n = after_space(out, n, answer.arguments);
-    listing::heading(out, n, b" moves ", answer.moves)
+    listing::pair(
+        out,
+        n,
+        b" arguments # moves #\n",
+        answer.arguments,
+        answer.moves,
+    )
 }
 
 // The counts of the four lists.
 fn four_counts(out: &mut [u8], used: usize, counts: Counts) -> usize {
-    let n = after_space(out, used, counts.pieces);
-    let n = after_space(out, n, counts.errors);
-    let n = after_space(out, n, counts.places);
-    after_space(out, n, counts.lines)
+    let n = listing::pair(out, used, b" # #", counts.pieces, counts.errors);
+    listing::pair(out, n, b" # #", counts.places, counts.lines)
 }
 
 // A refusal in short: `answer`, its number and its place.
 pub fn refusal(out: &mut [u8], used: usize, answer: Answer) -> usize {
-    let n = listing::words(out, used, b"answer ");
-    let n = listing::number(out, n, answer.number as usize);
-    listing::heading(out, n, b" ", answer.place)
-}
-
-// A number behind a space.
-fn after_space(out: &mut [u8], used: usize, value: usize) -> usize {
-    let n = listing::byte(out, used, b' ');
-    listing::number(out, n, value)
+    listing::pair(
+        out,
+        used,
+        b"answer # #\n",
+        answer.number as usize,
+        answer.place,
+    )
 }
 
 // The first line: in short the number alone.
@@ -44,20 +48,13 @@ fn head(out: &mut [u8], used: usize, full: bool, answer: Answer) -> usize {
     listing::heading(out, used, b"answer ", answer.number as usize)
 }
 
-// In short, a list's heading.
-fn section(out: &mut [u8], used: usize, full: bool, label: &[u8], count: usize) -> usize {
+// In short, a list's heading, by the word for its records.
+fn section(out: &mut [u8], used: usize, full: bool, word: &[u8], count: usize) -> usize {
     if full {
         return used;
     }
-    listing::heading(out, used, label, count)
-}
-
-// A piece's line.
-fn piece_line(out: &mut [u8], used: usize, full: bool, piece: Piece) -> usize {
-    if full {
-        return listing::piece(out, used, piece);
-    }
-    listing::short_piece(out, used, piece)
+    let n = listing::words(out, used, word);
+    listing::heading(out, n, b"s ", count)
 }
 
 // An error record's line.
@@ -73,12 +70,12 @@ fn span_line(
     out: &mut [u8],
     used: usize,
     full: bool,
-    label: &[u8],
+    word: &[u8],
     start: usize,
     end: usize,
 ) -> usize {
     if full {
-        return listing::pair_line(out, used, label, start, end);
+        return listing::pair_line(out, used, word, start, end);
     }
     listing::short_pair(out, used, start, end)
 }
@@ -92,11 +89,11 @@ fn piece_lines(
     count: usize,
 ) -> usize {
     let end = crate::room(count);
-    let mut n = section(out, used, full, b"pieces ", count);
+    let mut n = section(out, used, full, b"piece", count);
     let mut i = 0;
     while i < end {
         let piece = list[i];
-        n = piece_line(out, n, full, piece);
+        n = listing::piece(out, n, full, piece);
         i += 1;
     }
     n
@@ -111,7 +108,7 @@ fn error_lines(
     count: usize,
 ) -> usize {
     let end = crate::room(count);
-    let mut n = section(out, used, full, b"errors ", count);
+    let mut n = section(out, used, full, b"error", count);
     let mut i = 0;
     while i < end {
         let error = list[i];
@@ -126,16 +123,15 @@ fn span_lines(
     out: &mut [u8],
     used: usize,
     full: bool,
-    heading: &[u8],
-    label: &[u8],
+    word: &[u8],
     list: [usize; 2048],
     count: usize,
 ) -> usize {
     let end = crate::room(count);
-    let mut n = section(out, used, full, heading, count);
+    let mut n = section(out, used, full, word, count);
     let mut i = 0;
     while i < end {
-        n = span_line(out, n, full, label, list[2 * i], list[2 * i + 1]);
+        n = span_line(out, n, full, word, list[2 * i], list[2 * i + 1]);
         i += 1;
     }
     n
@@ -152,10 +148,9 @@ pub fn sections(
     places: [usize; 2048],
     lines: [usize; 2048],
 ) -> usize {
-    let counts = answer.counts;
     let n = head(out, used, full, answer);
-    let n = piece_lines(out, n, full, pieces, counts.pieces);
-    let n = error_lines(out, n, full, errors, counts.errors);
-    let n = span_lines(out, n, full, b"places ", b"place ", places, counts.places);
-    span_lines(out, n, full, b"lines ", b"line ", lines, counts.lines)
+    let n = piece_lines(out, n, full, pieces, answer.counts.pieces);
+    let n = error_lines(out, n, full, errors, answer.counts.errors);
+    let n = span_lines(out, n, full, b"place", places, answer.counts.places);
+    span_lines(out, n, full, b"line", lines, answer.counts.lines)
 }

@@ -32,8 +32,8 @@ mul-piece c = omega arith
 array-copy-out-piece : tie.Need-array-copy-out-piece Inv-loop μ-loop
 array-copy-out-piece c = omega arith
 
-piece-line-requires : tie.Need-piece-line-requires Inv-loop μ-loop
-piece-line-requires c κs = search needs
+piece-requires : tie.Need-piece-requires Inv-loop μ-loop
+piece-requires c κs = search needs
 
 add-i : tie.Need-add-i Inv-loop μ-loop
 add-i c = omega arith
@@ -62,7 +62,7 @@ piece-lines-spec =
     loop-holds
     mul-piece
     array-copy-out-piece
-    piece-line-requires
+    piece-requires
     add-i
     loop-less
     loop-again

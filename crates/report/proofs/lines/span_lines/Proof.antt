@@ -9,10 +9,10 @@ use Rattle.report.proofs.lines.span_lines.Statement.{statement}
 use Rattle.report.proofs.lines.span_lines.Tie as tie
 
 abbrev Inv-loop : tie.InvT-loop
-Inv-loop out₀ used full heading label count list end n₀ i₀ out n i = (i ≤ end) × ((end ≤ 1024) × (length out ≡ length out₀))
+Inv-loop out₀ used full word count list end n₀ i₀ out n i = (i ≤ end) × ((end ≤ 1024) × (length out ≡ length out₀))
 
 abbrev μ-loop : tie.MeasureT-loop
-μ-loop out₀ used full heading label count list end n₀ i₀ out n i = end - i
+μ-loop out₀ used full word count list end n₀ i₀ out n i = end - i
 
 room-requires : tie.Need-room-requires Inv-loop μ-loop
 room-requires c κs = search needs
