@@ -14,11 +14,18 @@ use turns::PieceTurn;
 ghost use Rattle.frame.specs.Bounds.{Small};
 ghost use Rattle.io.specs.Counts.{Counts};
 
-// The turns at which two runs over pieces part, and how many pieces they had before.
+// What is compared of a turn: whether it has a piece, of which sort, and its bytes.
+struct Seen {
+    more: bool,
+    literal: bool,
+    range: TextRange,
+}
+
+// What two runs over pieces have where they part, and how many pieces they had before.
 struct Apart {
     piece: usize,
-    one: PieceTurn,
-    two: PieceTurn,
+    one: Seen,
+    two: Seen,
 }
 
 // A file that was read, or could not be.
@@ -31,49 +38,41 @@ fn put(words: &[u8]) {
     io::write_all(STDOUT_FILENO, words);
 }
 
-// The bytes of a piece.
-fn range_of(piece: Piece) -> TextRange {
+fn seen_in(turn: PieceTurn) -> Seen {
+    let more = turn.more;
+    let piece = turn.piece;
     match piece {
-        Piece::Literal(view) => view,
-        Piece::Placeholder(argument) => argument.range,
-    }
-}
-
-fn is_literal(piece: Piece) -> bool {
-    match piece {
-        Piece::Literal(_) => true,
-        Piece::Placeholder(_) => false,
-    }
-}
-
-// Whether two pieces are of one sort and written with the same bytes.
-fn is_same_piece(one: &[u8], a: Piece, two: &[u8], b: Piece) -> bool {
-    if is_literal(a) {
-        if !is_literal(b) {
-            return false;
-        }
-    } else {
-        if is_literal(b) {
-            return false;
+        Piece::Literal(range) => Seen {
+            more,
+            literal: true,
+            range,
+        },
+        Piece::Placeholder(argument) => {
+            let range = argument.range;
+            Seen {
+                more,
+                literal: false,
+                range,
+            }
         }
     }
-    equal(
-        steps::text::literal_text(one, range_of(a)),
-        steps::text::literal_text(two, range_of(b)),
-    )
 }
 
-// Whether two runs both have a piece, and the same.
-fn is_same_turn(one: &[u8], a: PieceTurn, two: &[u8], b: PieceTurn) -> bool {
-    let x = a.piece;
-    let y = b.piece;
+// Whether two turns both have a piece, of one sort and written with the same bytes.
+fn is_same(one: &[u8], a: Seen, two: &[u8], b: Seen) -> bool {
     if !a.more {
         return false;
     }
     if !b.more {
         return false;
     }
-    is_same_piece(one, x, two, y)
+    if a.literal != b.literal {
+        return false;
+    }
+    equal(
+        steps::text::literal_text(one, a.range),
+        steps::text::literal_text(two, b.range),
+    )
 }
 
 // The first turns that are not the same. A run has no more pieces than its text has bytes.
@@ -83,13 +82,9 @@ fn first_apart(one: &[u8], f: Frame, two: &[u8], g: Frame, mode: Mode) -> Apart
     let mut a = turns::next_piece(one, f, mode, turns::first_cursor(one));
     let mut b = turns::next_piece(two, g, mode, turns::first_cursor(two));
     let mut i = 0;
-    while i < one.len() {
-        if !is_same_turn(one, a, two, b) {
-            return Apart {
-                piece: i,
-                one: a,
-                two: b,
-            };
+    while is_same(one, seen_in(a), two, seen_in(b)) {
+        if one.len() <= i {
+            break;
         }
         let c = a.cursor;
         let d = b.cursor;
@@ -99,21 +94,30 @@ fn first_apart(one: &[u8], f: Frame, two: &[u8], g: Frame, mode: Mode) -> Apart
     }
     Apart {
         piece: i,
-        one: a,
-        two: b,
+        one: seen_in(a),
+        two: seen_in(b),
     }
 }
 
 // A piece as it is written, or that there is none.
-fn put_piece(text: &[u8], turn: PieceTurn) {
-    if !turn.more {
+fn put_piece(text: &[u8], piece: Seen) {
+    if !piece.more {
         put(b"no more");
         return;
     }
-    let piece = turn.piece;
     put(b"`");
-    put(steps::text::literal_text(text, range_of(piece)));
+    put(steps::text::literal_text(text, piece.range));
     put(b"`");
+}
+
+fn put_apart(one: &[u8], two: &[u8], at: Apart) {
+    put(b"differ at piece ");
+    io::print_decimal(STDOUT_FILENO, at.piece as u64);
+    put(b": ");
+    put_piece(one, at.one);
+    put(b" and ");
+    put_piece(two, at.two);
+    put(b"\n");
 }
 
 // Where two plain forms part.
@@ -126,27 +130,18 @@ fn put_parting(one: &[u8], two: &[u8], mode: u8) {
     };
     let first = answer::decide::opened(one, b"", request);
     let second = answer::decide::opened(two, b"", request);
-    let p = first.answer;
-    let q = second.answer;
-    let f = first.frame;
-    let g = second.frame;
     let grammar = first.mode;
-    if p.number != 0 {
+    if first.answer.number != 0 {
         return;
     }
-    if q.number != 0 {
+    if second.answer.number != 0 {
         return;
     }
-    let at = first_apart(one, f, two, g, grammar);
-    let a = at.one;
-    let b = at.two;
-    put(b"differ at piece ");
-    io::print_decimal(STDOUT_FILENO, at.piece as u64);
-    put(b": ");
-    put_piece(one, a);
-    put(b" and ");
-    put_piece(two, b);
-    put(b"\n");
+    put_apart(
+        one,
+        two,
+        first_apart(one, first.frame, two, second.frame, grammar),
+    );
 }
 
 // Whether two plain forms are the same, or where they part.

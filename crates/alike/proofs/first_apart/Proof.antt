@@ -1,6 +1,7 @@
 -- `alike::first_apart` does nothing undefined: every turn leaves a cursor that a run has.
 use Prim.Native.Nat.{_-_}
 use native.Mathlib.Omega.{arith}
+use borrow.Author.Needs.{needs}
 use denote.Ref.{now}
 use lib.ListN.{length}
 use Rattle.turns.specs.Turns.{Fresh}
@@ -33,29 +34,38 @@ next-piece-requires-2 c κs =
 loop-holds : tie.Need-loop-holds Inv-loop μ-loop
 loop-holds c = (c .before .before .next-piece .ensures .fresh, c .next-piece2 .ensures .fresh)
 
-is-same-turn-requires : tie.Need-is-same-turn-requires Inv-loop μ-loop
-is-same-turn-requires c κs = tt
+seen-in-requires : tie.Need-seen-in-requires Inv-loop μ-loop
+seen-in-requires c κs = tt
 
-returns : tie.Need-returns Inv-loop μ-loop
-returns c = tt
+seen-in-requires-2 : tie.Need-seen-in-requires-2 Inv-loop μ-loop
+seen-in-requires-2 c κs = tt
+
+is-same-requires : tie.Need-is-same-requires Inv-loop μ-loop
+is-same-requires c κs = tt
 
 next-piece-requires-3 : tie.Need-next-piece-requires-3 Inv-loop μ-loop
-next-piece-requires-3 c κs = (c .before .before .before .before .before .before .before .before .before .before .before .before .pre .0, c .before .before .before .before .before .loop .inv .0)
+next-piece-requires-3 c κs = (c .before .before .before .before .before .before .before .before .before .before .before .before .before .before .pre .0, c .before .before .before .before .before .before .before .loop .inv .0)
 
 next-piece-requires-4 : tie.Need-next-piece-requires-4 Inv-loop μ-loop
-next-piece-requires-4 c κs = (c .before .before .before .before .before .before .before .before .before .before .before .before .before .pre .1, c .before .before .before .before .before .before .loop .inv .1)
+next-piece-requires-4 c κs = (c .before .before .before .before .before .before .before .before .before .before .before .before .before .before .before .pre .1, c .before .before .before .before .before .before .before .before .loop .inv .1)
 
 add-i : tie.Need-add-i Inv-loop μ-loop
-add-i c = omega (arith, c .before .before .before .before .before .before .loop-test .taken, c .before .before .before .before .before .before .before .before .before .before .before .before .before .before .pre .0 .text)
+add-i c = omega (arith, c .before .before .before .before .if2 .left, c .before .before .before .before .before .before .before .before .before .before .before .before .before .before .before .before .pre .0 .text)
 
 loop-less : tie.Need-loop-less Inv-loop μ-loop
-loop-less c = omega (arith, c .before .before .before .before .before .before .loop-test .taken)
+loop-less c = omega (arith, c .before .before .before .before .if2 .left)
 
 loop-again : tie.Need-loop-again Inv-loop μ-loop
 loop-again c = (c .before .next-piece3 .ensures .fresh, c .next-piece4 .ensures .fresh)
 
-returns-2 : tie.Need-returns-2 Inv-loop μ-loop
-returns-2 c = tt
+seen-in-requires-3 : tie.Need-seen-in-requires-3 Inv-loop μ-loop
+seen-in-requires-3 c κs = tt
+
+seen-in-requires-4 : tie.Need-seen-in-requires-4 Inv-loop μ-loop
+seen-in-requires-4 c κs = tt
+
+returns : tie.Need-returns Inv-loop μ-loop
+returns c = tt
 
 pub first-apart-spec : {M : Type 1} → statement M
 first-apart-spec =
@@ -68,11 +78,14 @@ first-apart-spec =
     first-cursor-requires-2
     next-piece-requires-2
     loop-holds
-    is-same-turn-requires
-    returns
+    seen-in-requires
+    seen-in-requires-2
+    is-same-requires
     next-piece-requires-3
     next-piece-requires-4
     add-i
     loop-less
     loop-again
-    returns-2)
+    seen-in-requires-3
+    seen-in-requires-4
+    returns)

@@ -24,42 +24,12 @@ returns-2 c = search needs
 
 first-apart-requires : tie.Need-first-apart-requires
 first-apart-requires c κs = (
-  opened-small _ _ _ (c .before .before .before .before .before .before .before .before .before .before .opened .ensures) (c .before .before .if1 .left),
-  opened-small _ _ _ (c .before .before .before .before .before .before .before .before .opened2 .ensures) (c .if2 .left),
+  opened-small _ _ _ (c .before .before .before .before .before .before .opened .ensures) (c .before .before .if1 .left),
+  opened-small _ _ _ (c .before .before .before .before .opened2 .ensures) (c .if2 .left),
 )
 
-slice-aggregate-put : tie.Need-slice-aggregate-put
-slice-aggregate-put c = search needs
-
-put-requires : tie.Need-put-requires
-put-requires c κs = search needs
-
-print-decimal-requires : tie.Need-print-decimal-requires
-print-decimal-requires c κs = search needs
-
-slice-aggregate-put-2 : tie.Need-slice-aggregate-put-2
-slice-aggregate-put-2 c = search needs
-
-put-requires-2 : tie.Need-put-requires-2
-put-requires-2 c κs = search needs
-
-put-piece-requires : tie.Need-put-piece-requires
-put-piece-requires c κs = search needs
-
-slice-aggregate-put-3 : tie.Need-slice-aggregate-put-3
-slice-aggregate-put-3 c = search needs
-
-put-requires-3 : tie.Need-put-requires-3
-put-requires-3 c κs = search needs
-
-put-piece-requires-2 : tie.Need-put-piece-requires-2
-put-piece-requires-2 c κs = search needs
-
-slice-aggregate-put-4 : tie.Need-slice-aggregate-put-4
-slice-aggregate-put-4 c = search needs
-
-put-requires-4 : tie.Need-put-requires-4
-put-requires-4 c κs = search needs
+put-apart-requires : tie.Need-put-apart-requires
+put-apart-requires c κs = search needs
 
 returns-3 : tie.Need-returns-3
 returns-3 c = search needs
@@ -75,15 +45,5 @@ put-parting-spec =
     returns
     returns-2
     first-apart-requires
-    slice-aggregate-put
-    put-requires
-    print-decimal-requires
-    slice-aggregate-put-2
-    put-requires-2
-    put-piece-requires
-    slice-aggregate-put-3
-    put-requires-3
-    put-piece-requires-2
-    slice-aggregate-put-4
-    put-requires-4
+    put-apart-requires
     returns-3)
