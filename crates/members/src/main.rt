@@ -10,8 +10,13 @@ use membership::Verdict;
 use reading::Hashes;
 use reading::Piece;
 use reading::Request;
-use turns::PieceTurn;
 ghost use Rattle.frame.specs.Bounds.{Small};
+
+// Whether a text has a piece, and its bytes.
+struct Found {
+    there: bool,
+    range: TextRange,
+}
 
 // Two numbers, each behind a word, and the end of the line.
 fn line(first: &[u8], a: usize, second: &[u8], b: usize) {
@@ -27,8 +32,16 @@ fn say(words: &[u8]) {
     io::write_all(STDERR_FILENO, words);
 }
 
+// The bytes of a piece.
+fn range_of(piece: Piece) -> TextRange {
+    match piece {
+        Piece::Literal(view) => view,
+        Piece::Placeholder(argument) => argument.range,
+    }
+}
+
 // The piece that is counted k, from 0; past the last there is none.
-fn piece_at(text: &[u8], frame: Frame, k: usize) -> PieceTurn
+fn piece_at(text: &[u8], frame: Frame, k: usize) -> Found
     requires { ⌜ Small (now text) frame ⌝ }
 {
     let start = turns::first_cursor(text);
@@ -39,14 +52,10 @@ fn piece_at(text: &[u8], frame: Frame, k: usize) -> PieceTurn
         turn = turns::next_piece(text, frame, Mode::Format, cursor);
         i += 1;
     }
-    turn
-}
-
-// The bytes of a piece.
-fn range_of(piece: Piece) -> TextRange {
-    match piece {
-        Piece::Literal(view) => view,
-        Piece::Placeholder(argument) => argument.range,
+    let last = turn.piece;
+    Found {
+        there: turn.more,
+        range: range_of(last),
     }
 }
 
@@ -56,7 +65,7 @@ fn say_piece(text: &[u8], k: usize, range: TextRange) {
     io::print_decimal(STDERR_FILENO, k as u64);
     say(b" `");
     say(steps::text::literal_text(text, range));
-    say(b"`\n");
+    say(b"`");
 }
 
 // A rule that is broken at a piece, or by the lack of one.
@@ -79,23 +88,15 @@ fn say_rule(rule: u8, there: bool) {
 // The rule in words, and the piece where there is one.
 fn explain(text: &[u8], request: Request, rule: u8, k: usize) {
     let first = answer::decide::opened(text, b"", request);
-    let answer = first.answer;
-    let frame = first.frame;
-    if answer.number != 0 {
+    if first.answer.number != 0 {
         return;
     }
-    let turn = piece_at(text, frame, k);
-    say_rule(rule, turn.more);
-    if rule == 1 {
-        say(b"\n");
-        return;
+    let piece = piece_at(text, first.frame, k);
+    say_rule(rule, piece.there);
+    if piece.there && rule != 1 {
+        say_piece(text, k, piece.range);
     }
-    if turn.more {
-        let piece = turn.piece;
-        say_piece(text, k, range_of(piece));
-    } else {
-        say(b"\n");
-    }
+    say(b"\n");
 }
 
 // A refusal in words: with no style and Format it is 3 or 4.
@@ -107,28 +108,33 @@ fn say_refusal(number: u8) {
     }
 }
 
-fn main() {
-    // One byte more than the longest text that is read: a longer input is read far enough to be refused as 3.
-    let mut text = io::large_buffer();
-    let length = io::read_full(STDIN_FILENO, &mut text);
+// The verdict on a text.
+fn tell(text: &[u8]) {
     let request = Request {
         mode: 0,
         style: Hashes::Plain,
         given: false,
         newline: false,
     };
-    match member::judge(&text[..length], b"", request) {
+    match member::judge(text, b"", request) {
         Verdict::Yes => {
             io::write_all(STDOUT_FILENO, b"yes\n");
             say(b"a member template\n");
         }
         Verdict::Broken(rule, piece) => {
             line(b"rule ", rule as usize, b" piece ", piece);
-            explain(&text[..length], request, rule, piece);
+            explain(text, request, rule, piece);
         }
         Verdict::Refused(number, place) => {
             line(b"answer ", number as usize, b" ", place);
             say_refusal(number);
         }
     }
+}
+
+fn main() {
+    // One byte more than the longest text that is read: a longer input is read far enough to be refused as 3.
+    let mut text = io::large_buffer();
+    let length = io::read_full(STDIN_FILENO, &mut text);
+    tell(&text[..length]);
 }

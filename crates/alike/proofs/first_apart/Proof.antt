@@ -1,7 +1,6 @@
 -- `alike::first_apart` does nothing undefined: every turn leaves a cursor that a run has.
 use Prim.Native.Nat.{_-_}
 use native.Mathlib.Omega.{arith}
-use borrow.Author.Needs.{needs}
 use denote.Ref.{now}
 use lib.ListN.{length}
 use Rattle.turns.specs.Turns.{Fresh}

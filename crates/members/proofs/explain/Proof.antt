@@ -14,10 +14,13 @@ returns : tie.Need-returns
 returns c = search needs
 
 piece-at-requires : tie.Need-piece-at-requires
-piece-at-requires c κs = opened-small _ _ _ (c .before .before .before .before .opened .ensures) (c .if1 .left)
+piece-at-requires c κs = opened-small _ _ _ (c .before .before .opened .ensures) (c .if1 .left)
 
 say-rule-requires : tie.Need-say-rule-requires
 say-rule-requires c κs = search needs
+
+say-piece-requires : tie.Need-say-piece-requires
+say-piece-requires c κs = search needs
 
 slice-aggregate-say : tie.Need-slice-aggregate-say
 slice-aggregate-say c = search needs
@@ -28,24 +31,6 @@ say-requires c κs = search needs
 returns-2 : tie.Need-returns-2
 returns-2 c = search needs
 
-range-of-requires : tie.Need-range-of-requires
-range-of-requires c κs = search needs
-
-say-piece-requires : tie.Need-say-piece-requires
-say-piece-requires c κs = search needs
-
-slice-aggregate-say-2 : tie.Need-slice-aggregate-say-2
-slice-aggregate-say-2 c = search needs
-
-say-requires-2 : tie.Need-say-requires-2
-say-requires-2 c κs = search needs
-
-returns-3 : tie.Need-returns-3
-returns-3 c = search needs
-
-returns-4 : tie.Need-returns-4
-returns-4 c = search needs
-
 pub explain-spec : {M : Type 1} → statement M
 explain-spec =
     tie.close
@@ -55,12 +40,7 @@ explain-spec =
     returns
     piece-at-requires
     say-rule-requires
+    say-piece-requires
     slice-aggregate-say
     say-requires
-    returns-2
-    range-of-requires
-    say-piece-requires
-    slice-aggregate-say-2
-    say-requires-2
-    returns-3
-    returns-4)
+    returns-2)

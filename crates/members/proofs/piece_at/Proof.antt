@@ -36,6 +36,9 @@ loop-less c = omega (arith, c .before .before .loop-test .taken)
 loop-again : tie.Need-loop-again Inv-loop μ-loop
 loop-again c = c .next-piece2 .ensures .fresh
 
+range-of-requires : tie.Need-range-of-requires Inv-loop μ-loop
+range-of-requires c κs = tt
+
 returns : tie.Need-returns Inv-loop μ-loop
 returns c = tt
 
@@ -52,4 +55,5 @@ piece-at-spec =
     add-i
     loop-less
     loop-again
+    range-of-requires
     returns)
