@@ -2,7 +2,6 @@
 use frame::Frame;
 use frame::Mode;
 use libc::STDERR_FILENO;
-use reading::ErrorRecord;
 use reading::Hashes;
 use reading::Request;
 use tidiness::Tidied;
@@ -119,11 +118,11 @@ fn say_found(piece: usize, kind: u8) {
 }
 
 // The first error that is found, of a text that has one.
-fn first_error(text: &[u8], frame: Frame, mode: Mode) -> ErrorRecord
+fn say_first(text: &[u8], frame: Frame, mode: Mode)
     requires { ⌜ Small (now text) frame ⌝ }
 {
     let turn = turns::next_fault(text, frame, mode, turns::first_cursor(text), 0);
-    turn.record
+    say_found(turn.record.piece, turn.record.kind);
 }
 
 // The first error in words, and the piece that it was found in.
@@ -135,14 +134,10 @@ fn say_error(text: &[u8], mode: u8) {
         newline: false,
     };
     let first = answer::decide::opened(text, b"", request);
-    let answer = first.answer;
-    let frame = first.frame;
     let grammar = first.mode;
-    if answer.number != 0 {
-        return;
+    if first.answer.number == 0 {
+        say_first(text, first.frame, grammar);
     }
-    let error = first_error(text, frame, grammar);
-    say_found(error.piece, error.kind);
 }
 
 // Why a text has no plain form.

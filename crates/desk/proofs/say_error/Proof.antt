@@ -10,17 +10,14 @@ slice-aggregate-opened c = search needs
 opened-requires : tie.Need-opened-requires
 opened-requires c κs = search needs
 
+say-first-requires : tie.Need-say-first-requires
+say-first-requires c κs = opened-small _ _ _ (c .before .before .opened .ensures) (c .if1 .taken)
+
 returns : tie.Need-returns
 returns c = search needs
-
-first-error-requires : tie.Need-first-error-requires
-first-error-requires c κs = opened-small _ _ _ (c .before .before .before .before .opened .ensures) (c .if1 .left)
-
-say-found-requires : tie.Need-say-found-requires
-say-found-requires c κs = search needs
 
 returns-2 : tie.Need-returns-2
 returns-2 c = search needs
 
 pub say-error-spec : {M : Type 1} → statement M
-say-error-spec = tie.close (tie.spec slice-aggregate-opened opened-requires returns first-error-requires say-found-requires returns-2)
+say-error-spec = tie.close (tie.spec slice-aggregate-opened opened-requires say-first-requires returns returns-2)
