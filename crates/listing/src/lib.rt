@@ -139,8 +139,8 @@ fn fill(out: &mut [u8], used: usize, f: Fill) -> usize {
     match f {
         Fill::Absent => words(out, used, b" fill -"),
         Fill::Present(code, s) => {
-            let n = labelled(out, used, b" fill ", code as usize);
-            pair(out, n, b" #..#", s.start.0, s.end.0)
+            let n = pair(out, used, b" fill # #..", code as usize, s.start.0);
+            number(out, n, s.end.0)
         }
     }
 }
@@ -195,8 +195,14 @@ fn marks(out: &mut [u8], used: usize, align: Align, sign: Sign) -> usize {
 }
 
 fn flags(out: &mut [u8], used: usize, alternate: bool, zero: bool, hex: Hex) -> usize {
-    let n = pair(out, used, b" alt # zero #", flag(alternate), flag(zero));
-    labelled(out, n, b" hex ", hex_number(hex))
+    let n = pair(
+        out,
+        used,
+        b" alt # zero # hex ",
+        flag(alternate),
+        flag(zero),
+    );
+    number(out, n, hex_number(hex))
 }
 
 // A spec's type, the last of its line.
@@ -261,8 +267,8 @@ pub fn piece(out: &mut [u8], used: usize, full: bool, p: Piece) -> usize {
 
 // An error record's kind and span.
 fn error_head(out: &mut [u8], used: usize, kind: u8, at: Span) -> usize {
-    let n = labelled(out, used, b"err ", kind as usize);
-    pair(out, n, b" #..#", at.start.0, at.end.0)
+    let n = pair(out, used, b"err # #..", kind as usize, at.start.0);
+    number(out, n, at.end.0)
 }
 
 // An error record's line.
@@ -285,9 +291,8 @@ pub fn pair_line(out: &mut [u8], used: usize, label: &[u8], start: usize, end: u
 
 // An error record's line in the short listing: its kind, its span, and how many pieces were listed before it.
 pub fn short_error(out: &mut [u8], used: usize, e: ErrorRecord) -> usize {
-    let at = e.span;
-    let n = pair(out, used, b"# #", e.kind as usize, at.start.0);
-    pair(out, n, b" # #\n", at.end.0, e.piece)
+    let n = pair(out, used, b"# # ", e.kind as usize, e.span.start.0);
+    pair(out, n, b"# #\n", e.span.end.0, e.piece)
 }
 
 // A span's line in the short listing.
