@@ -15,7 +15,7 @@ ghost use Rattle.frame.specs.Bounds.{Small};
 ghost use Rattle.io.specs.Counts.{Counts};
 
 // What is compared of a turn: whether it has a piece, of which sort, and its bytes.
-struct Seen {
+struct PieceSeen {
     more: bool,
     literal: bool,
     range: TextRange,
@@ -24,8 +24,8 @@ struct Seen {
 // What two runs over pieces have where they part, and how many pieces they had before.
 struct Apart {
     piece: usize,
-    one: Seen,
-    two: Seen,
+    one: PieceSeen,
+    two: PieceSeen,
 }
 
 // A file that was read, or could not be.
@@ -38,18 +38,18 @@ fn put(words: &[u8]) {
     io::write_all(STDOUT_FILENO, words);
 }
 
-fn seen_in(turn: PieceTurn) -> Seen {
+fn seen_in(turn: PieceTurn) -> PieceSeen {
     let more = turn.more;
     let piece = turn.piece;
     match piece {
-        Piece::Literal(range) => Seen {
+        Piece::Literal(range) => PieceSeen {
             more,
             literal: true,
             range,
         },
         Piece::Placeholder(argument) => {
             let range = argument.range;
-            Seen {
+            PieceSeen {
                 more,
                 literal: false,
                 range,
@@ -59,7 +59,7 @@ fn seen_in(turn: PieceTurn) -> Seen {
 }
 
 // Whether two turns both have a piece, of one sort and written with the same bytes.
-fn is_same(one: &[u8], a: Seen, two: &[u8], b: Seen) -> bool {
+fn is_same(one: &[u8], a: PieceSeen, two: &[u8], b: PieceSeen) -> bool {
     if !a.more {
         return false;
     }
@@ -100,7 +100,7 @@ fn first_apart(one: &[u8], f: Frame, two: &[u8], g: Frame, mode: Mode) -> Apart
 }
 
 // A piece as it is written, or that there is none.
-fn put_piece(text: &[u8], piece: Seen) {
+fn put_piece(text: &[u8], piece: PieceSeen) {
     if !piece.more {
         put(b"no more");
         return;

@@ -74,7 +74,7 @@ pub fn say_number(n: usize) {
     io::print_decimal(STDERR_FILENO, n as u64);
 }
 
-// The line of that number, from 1, of lines that each end.
+// A line of a table, by its number, counted from 1.
 fn say_line(lines: &[u8], number: usize) {
     let mut line = 1;
     let mut start = 0;
@@ -92,8 +92,8 @@ fn say_line(lines: &[u8], number: usize) {
     }
 }
 
-// The piece that an error was found in, and its kind in words, a line for each from 1 on.
-fn say_found(piece: usize, kind: u8) {
+// The piece that an error was found in, and its kind in words: the table has a line for each kind.
+fn say_kind_in_piece(piece: usize, kind: u8) {
     say(b", the first in piece ");
     say_number(piece);
     say(b": ");
@@ -117,15 +117,15 @@ fn say_found(piece: usize, kind: u8) {
     );
 }
 
-// The first error that is found, of a text that has one.
-fn say_first(text: &[u8], frame: Frame, mode: Mode)
+// The first error that is found in a text that has one.
+fn say_first_error(text: &[u8], frame: Frame, mode: Mode)
     requires { ⌜ Small (now text) frame ⌝ }
 {
     let turn = turns::next_fault(text, frame, mode, turns::first_cursor(text), 0);
-    say_found(turn.record.piece, turn.record.kind);
+    say_kind_in_piece(turn.record.piece, turn.record.kind);
 }
 
-// The first error in words, and the piece that it was found in.
+// The same of a text in a mode by its number, which may not be one.
 fn say_error(text: &[u8], mode: u8) {
     let request = Request {
         mode,
@@ -136,7 +136,7 @@ fn say_error(text: &[u8], mode: u8) {
     let first = answer::decide::opened(text, b"", request);
     let grammar = first.mode;
     if first.answer.number == 0 {
-        say_first(text, first.frame, grammar);
+        say_first_error(text, first.frame, grammar);
     }
 }
 

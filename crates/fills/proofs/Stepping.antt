@@ -71,6 +71,10 @@ byte-within t k h = go (ltb k (length t)) refl
     go true q = ltb-true _ _ q
     go false q = absurd (omega (arith, h, List·getD-eq-default t 0 (ltb-false _ _ q)))
 
+pub doubled-within : (t : List ℕ) (k : ℕ) → Doubled t k → k < length t
+doubled-within t k (inl (e, g)) = byte-within t k (omega (arith, e))
+doubled-within t k (inr (e, g)) = byte-within t k (omega (arith, e))
+
 -- WHAT THE STEP IS
 module _ (t : List ℕ) (f : Frame) (m : Mode) (s : State) where
   pub step-end : length t ≤ s .at .0 → Step.End ≡ stepAt t f m s

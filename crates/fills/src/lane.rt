@@ -76,9 +76,10 @@ fn pass_literal(
     }
 }
 
-// The step at the first of two braces: literal text, whose view starts at the second.
+// The step at the first of two braces: literal text, whose view starts at the second. The text behind takes a call: a second look in place would make both a
+// call in the loop.
 fn pass_doubled(text: &[u8], frame: Frame, state: State, n: usize, pieces: &mut [u32]) -> Passed
-    requires { ⌜ Small (now text) frame × (40 * (n + length (piecesOf (stepAt (now text) frame Modes.Format state))) ≤ length (now pieces)) × Doubled (now text) (state .at .0) × (state .at .0 < length (now text)) ⌝ }
+    requires { ⌜ Small (now text) frame × (40 * (n + length (piecesOf (stepAt (now text) frame Modes.Format state))) ≤ length (now pieces)) × Doubled (now text) (state .at .0) ⌝ }
     ensures { λ r. ⌜ PassedBy (now (text .entry)) frame state n (now (pieces .entry)) r (now (pieces .exit)) ⌝ }
 {
     let i = state.at.0;

@@ -1,4 +1,4 @@
-// The full listing of a call: each record a line, written through a buffer that the caller lends.
+// The full and the short listing of a call: each record a line, written through a buffer that the caller lends.
 // Every function takes the buffer and how much of it is used, and gives how much is used afterwards; a full buffer is written out.
 use frame::Span;
 use frame::TextRange;
@@ -56,17 +56,17 @@ pub fn flush(out: &[u8], used: usize) {
     }
 }
 
-// A form with two numbers, the first in the place of its first `#`.
-pub fn pair(out: &mut [u8], used: usize, form: &[u8], first: usize, second: usize) -> usize {
+// A line, or a part of one, by its shape: the first `#` in it stands for the first number, every later one for the second.
+pub fn form(out: &mut [u8], used: usize, shape: &[u8], first: usize, second: usize) -> usize {
     let mut n = used;
     let mut next = first;
     let mut i = 0;
-    while i < form.len() {
-        if form[i] == b'#' {
+    while i < shape.len() {
+        if shape[i] == b'#' {
             n = number(out, n, next);
             next = second;
         } else {
-            n = byte(out, n, form[i]);
+            n = byte(out, n, shape[i]);
         }
         i += 1;
     }
@@ -84,14 +84,14 @@ fn maybe_span(out: &mut [u8], used: usize, label: &[u8], s: MaybeSpan) -> usize 
     let n = words(out, used, label);
     match s {
         MaybeSpan::Absent => byte(out, n, b'-'),
-        MaybeSpan::Present(x) => pair(out, n, b"#..#", x.start.0, x.end.0),
+        MaybeSpan::Present(x) => form(out, n, b"#..#", x.start.0, x.end.0),
     }
 }
 
 fn quoted(out: &mut [u8], used: usize, r: MaybeRange) -> usize {
     match r {
         MaybeRange::Absent => words(out, used, b" quoted -"),
-        MaybeRange::Present(x) => pair(out, used, b" quoted #..#", x.start.0, x.end.0),
+        MaybeRange::Present(x) => form(out, used, b" quoted #..#", x.start.0, x.end.0),
     }
 }
 
@@ -116,13 +116,13 @@ fn place(out: &mut [u8], used: usize, p: Place) -> usize {
     match p {
         Place::Next(i) => labelled(out, used, b"next ", i),
         Place::At(i) => numbered(out, used, i),
-        Place::Named(r) => pair(out, used, b"name # #", r.start.0, r.end.0),
+        Place::Named(r) => form(out, used, b"name # #", r.start.0, r.end.0),
     }
 }
 
 fn by_name(out: &mut [u8], used: usize, r: TextRange, s: Span) -> usize {
-    let n = pair(out, used, b"name # #", r.start.0, r.end.0);
-    pair(out, n, b" #..#", s.start.0, s.end.0)
+    let n = form(out, used, b"name # #", r.start.0, r.end.0);
+    form(out, n, b" #..#", s.start.0, s.end.0)
 }
 
 fn count(out: &mut [u8], used: usize, c: Count) -> usize {
@@ -139,7 +139,7 @@ fn fill(out: &mut [u8], used: usize, f: Fill) -> usize {
     match f {
         Fill::Absent => words(out, used, b" fill -"),
         Fill::Present(code, s) => {
-            let n = pair(out, used, b" fill # #..", code as usize, s.start.0);
+            let n = form(out, used, b" fill # #..", code as usize, s.start.0);
             number(out, n, s.end.0)
         }
     }
@@ -185,7 +185,7 @@ fn labelled_count(out: &mut [u8], used: usize, label: &[u8], c: Count, s: MaybeS
 }
 
 fn marks(out: &mut [u8], used: usize, align: Align, sign: Sign) -> usize {
-    pair(
+    form(
         out,
         used,
         b" align # sign #",
@@ -195,7 +195,7 @@ fn marks(out: &mut [u8], used: usize, align: Align, sign: Sign) -> usize {
 }
 
 fn flags(out: &mut [u8], used: usize, alternate: bool, zero: bool, hex: Hex) -> usize {
-    let n = pair(
+    let n = form(
         out,
         used,
         b" alt # zero # hex ",
@@ -207,7 +207,7 @@ fn flags(out: &mut [u8], used: usize, alternate: bool, zero: bool, hex: Hex) -> 
 
 // A spec's type, the last of its line.
 fn typed(out: &mut [u8], used: usize, name: TextRange, at: MaybeSpan) -> usize {
-    let n = pair(out, used, b" type # #", name.start.0, name.end.0);
+    let n = form(out, used, b" type # #", name.start.0, name.end.0);
     let n = maybe_span(out, n, b" ", at);
     byte(out, n, b'\n')
 }
@@ -218,7 +218,7 @@ fn details(out: &mut [u8], used: usize, at: Span, s: Spec) -> usize {
     let align = s.align;
     let sign = s.sign;
     let hex = s.hex;
-    let n = pair(out, used, b" span #..#", at.start.0, at.end.0);
+    let n = form(out, used, b" span #..#", at.start.0, at.end.0);
     let n = fill(out, n, filling);
     let n = marks(out, n, align, sign);
     let n = flags(out, n, s.alternate, s.zero, hex);
@@ -239,12 +239,12 @@ fn counts(out: &mut [u8], used: usize, s: Spec) -> usize {
 
 // An argument's bytes and its place.
 fn placed(out: &mut [u8], used: usize, bytes: TextRange, at: Place) -> usize {
-    let n = pair(out, used, b"arg # # ", bytes.start.0, bytes.end.0);
+    let n = form(out, used, b"arg # # ", bytes.start.0, bytes.end.0);
     place(out, n, at)
 }
 
 fn literal(out: &mut [u8], used: usize, r: TextRange) -> usize {
-    pair(out, used, b"lit # #\n", r.start.0, r.end.0)
+    form(out, used, b"lit # #\n", r.start.0, r.end.0)
 }
 
 // An argument's line.
@@ -267,7 +267,7 @@ pub fn piece(out: &mut [u8], used: usize, full: bool, p: Piece) -> usize {
 
 // An error record's kind and span.
 fn error_head(out: &mut [u8], used: usize, kind: u8, at: Span) -> usize {
-    let n = pair(out, used, b"err # #..", kind as usize, at.start.0);
+    let n = form(out, used, b"err # #..", kind as usize, at.start.0);
     number(out, n, at.end.0)
 }
 
@@ -286,18 +286,18 @@ pub fn error(out: &mut [u8], used: usize, e: ErrorRecord) -> usize {
 // A line of an argument place or a line span: its label, start and end.
 pub fn pair_line(out: &mut [u8], used: usize, label: &[u8], start: usize, end: usize) -> usize {
     let n = words(out, used, label);
-    pair(out, n, b" #..#\n", start, end)
+    form(out, n, b" #..#\n", start, end)
 }
 
 // An error record's line in the short listing: its kind, its span, and how many pieces were listed before it.
 pub fn short_error(out: &mut [u8], used: usize, e: ErrorRecord) -> usize {
-    let n = pair(out, used, b"# # ", e.kind as usize, e.span.start.0);
-    pair(out, n, b"# #\n", e.span.end.0, e.piece)
+    let n = form(out, used, b"# # ", e.kind as usize, e.span.start.0);
+    form(out, n, b"# #\n", e.span.end.0, e.piece)
 }
 
 // A span's line in the short listing.
 pub fn short_pair(out: &mut [u8], used: usize, start: usize, end: usize) -> usize {
-    pair(out, used, b"# #\n", start, end)
+    form(out, used, b"# #\n", start, end)
 }
 
 // A word, a number and the line's end.

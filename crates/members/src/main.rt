@@ -13,7 +13,7 @@ use reading::Request;
 ghost use Rattle.frame.specs.Bounds.{Small};
 
 // Whether a text has a piece, and its bytes.
-struct Found {
+struct PieceFound {
     there: bool,
     range: TextRange,
 }
@@ -41,7 +41,7 @@ fn range_of(piece: Piece) -> TextRange {
 }
 
 // The piece that is counted k, from 0; past the last there is none.
-fn piece_at(text: &[u8], frame: Frame, k: usize) -> Found
+fn piece_at(text: &[u8], frame: Frame, k: usize) -> PieceFound
     requires { ⌜ Small (now text) frame ⌝ }
 {
     let start = turns::first_cursor(text);
@@ -52,10 +52,10 @@ fn piece_at(text: &[u8], frame: Frame, k: usize) -> Found
         turn = turns::next_piece(text, frame, Mode::Format, cursor);
         i += 1;
     }
-    let last = turn.piece;
-    Found {
+    let piece = turn.piece;
+    PieceFound {
         there: turn.more,
-        range: range_of(last),
+        range: range_of(piece),
     }
 }
 

@@ -6,7 +6,7 @@ use reading::Piece;
 
 // `answer`, the number, the place, the four counts, the arguments and the moves.
 pub fn answer_line(out: &mut [u8], used: usize, answer: Answer) -> usize {
-    let n = listing::pair(
+    let n = listing::form(
         out,
         used,
         b"answer # #",
@@ -14,7 +14,7 @@ pub fn answer_line(out: &mut [u8], used: usize, answer: Answer) -> usize {
         answer.place,
     );
     let n = four_counts(out, n, answer.counts);
-    listing::pair(
+    listing::form(
         out,
         n,
         b" arguments # moves #\n",
@@ -25,13 +25,13 @@ pub fn answer_line(out: &mut [u8], used: usize, answer: Answer) -> usize {
 
 // The counts of the four lists.
 fn four_counts(out: &mut [u8], used: usize, counts: Counts) -> usize {
-    let n = listing::pair(out, used, b" # #", counts.pieces, counts.errors);
-    listing::pair(out, n, b" # #", counts.places, counts.lines)
+    let n = listing::form(out, used, b" # #", counts.pieces, counts.errors);
+    listing::form(out, n, b" # #", counts.places, counts.lines)
 }
 
 // A refusal in short: `answer`, its number and its place.
 pub fn refusal(out: &mut [u8], used: usize, answer: Answer) -> usize {
-    listing::pair(
+    listing::form(
         out,
         used,
         b"answer # #\n",

@@ -111,21 +111,23 @@ fn report(totals: [usize; 24]) {
 // A page whose every `#` stands for the next total.
 fn page(form: &[u8], totals: [usize; 24]) {
     let mut next = 0;
+    let mut start = 0;
     let mut i = 0;
     while i < form.len() {
-        next = put(form[i], totals, next);
+        if form[i] == b'#' {
+            io::write_all(STDOUT_FILENO, &form[start..i]);
+            put_total(totals, next);
+            next += 1;
+            start = i + 1;
+        }
         i += 1;
     }
+    io::write_all(STDOUT_FILENO, &form[start..i]);
 }
 
-// A byte of the page, or the total k in its place; which total comes next.
-fn put(byte: u8, totals: [usize; 24], k: usize) -> usize {
-    if byte == b'#' {
-        if k < 24 {
-            io::print_decimal(STDOUT_FILENO, totals[k] as u64);
-            return k + 1;
-        }
+// The total of that number, from 0.
+fn put_total(totals: [usize; 24], k: usize) {
+    if k < 24 {
+        io::print_decimal(STDOUT_FILENO, totals[k] as u64);
     }
-    io::write_all(STDOUT_FILENO, &[byte]);
-    k
 }

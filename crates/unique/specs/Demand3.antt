@@ -1,5 +1,5 @@
 -- DEMAND 3 IS MET: for every text that is UTF-8, every frame (style, snippet and mark) and every mode, by the lists that the public call's
--- contract cites. The page is Demand; the work is in Device/Readings, Numbers, Within, Covering and AnyFrame.
+-- contract cites. The page is grammar's Demand; the work is in Device/Readings, Numbers, Within, Covering and AnyFrame.
 use mathlib.Core.Path.{_≡_, sym, _∙_}
 use mathlib.Core.List.{List, []}
 use Prim.Native.Nat.{ℕ}

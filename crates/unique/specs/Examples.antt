@@ -1,4 +1,4 @@
--- Worked readings, computed: the elements of nine texts, and seven texts that have none. Rests on Grammar, and on the parser of the proof.
+-- Worked readings, computed: the elements of nine texts, and seven texts that have none. Rests on grammar's Grammar, and on the parser of the proof.
 use mathlib.Core.Path.{_≡_, refl, ap, _∙_}
 use mathlib.Core.Bool.{true, false}
 use mathlib.Core.List.{List, [], _∷_}

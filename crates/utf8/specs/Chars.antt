@@ -2,11 +2,12 @@
 -- and Utf8.
 use Prim.Native.Nat.{ℕ, zero, suc, pred, _+_}
 use mathlib.Core.Bool.{Bool}
+use mathlib.Core.Path.{_≡_}
 use mathlib.Core.List.{List, [], _∷_}
 use lib.Dec.{ltb}
-use lib.ListN.{drop}
+use lib.ListN.{drop, length}
 use Rattle.utf8.specs.Choice.{pick}
-use Rattle.utf8.specs.Utf8.{decode}
+use Rattle.utf8.specs.Utf8.{decode, validPrefix}
 use Rattle.utf8.specs.declared.Seen.{Seen}
 use Rattle.utf8.specs.declared.Seen.the-variants.{Char, End}
 
@@ -43,6 +44,10 @@ before e (c ∷ cs) = pick (ltb (c .at) e) (c ∷ before e cs) []
 -- the characters from place i on that stand before byte e
 abbrev pub charsOf : List ℕ → ℕ → ℕ → List Ch
 charsOf t i e = before e (charsFrom t i)
+
+-- what a check of a text tells: how long the longest prefix is that is UTF-8, and how many characters stand there
+abbrev pub CheckedAs : List ℕ → ℕ → ℕ → Type 0
+CheckedAs t valid chars = (valid ≡ validPrefix t) × (chars ≡ length (charsOf t 0 (validPrefix t)))
 
 -- the characters at the start whose code passes the test, as far as they go
 unfoldable pub takeWhile : (ℕ → Bool) → List Ch → List Ch

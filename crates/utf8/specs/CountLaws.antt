@@ -10,7 +10,7 @@ use lib.ListN.{length, getD, drop}
 use Rattle.utf8.specs.Choice.{pick}
 use Rattle.utf8.specs.Utf8.{sequenceAt, charOf, peekAt, validPrefix}
 use Rattle.utf8.specs.DecodeLaws.{decode-sequence}
-use Rattle.utf8.specs.Chars.{Ch, charsFrom, before, charsOf}
+use Rattle.utf8.specs.Chars.{Ch, charsFrom, before, charsOf, CheckedAs}
 use Rattle.utf8.specs.CharLaws.{peeked, first, before-more, before-past, ascii-char, places-on}
 use Rattle.utf8.specs.Utf8Laws.{validEnd, valid-room, valid-past, valid-all}
 use Rattle.utf8.specs.Blocks.{howMany, isHigh}
@@ -71,7 +71,7 @@ pub all-passed : (t : List ℕ) → validPrefix t ≡ length t → length (chars
 all-passed t v = ap length (all-before t (charsFrom t 0) 0 (validPrefix t) refl (omega arith))
 
 -- a text that is all ASCII is UTF-8 to its end, and has as many characters as bytes
-pub ascii-checked : (t : List ℕ) → howMany isHigh t 0 (length t) ≡ 0 → (length t ≡ validPrefix t) × (length t ≡ length (charsOf t 0 (validPrefix t)))
+pub ascii-checked : (t : List ℕ) → howMany isHigh t 0 (length t) ≡ 0 → CheckedAs t (length t) (length t)
 ascii-checked t z =
     let n = length t in
     let q : n - 0 ≡ n = omega arith in

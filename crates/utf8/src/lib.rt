@@ -7,7 +7,7 @@ ghost use lib.ListN.{length, getD, drop};
 ghost use Rattle.utf8.specs.Choice.{within};
 ghost use Rattle.utf8.specs.Utf8.{low, high, code2, code3, code4, sequenceOf, sequenceAt, charOf, peekAt, validPrefix};
 ghost use Rattle.utf8.specs.Utf8Laws.{validEnd};
-ghost use Rattle.utf8.specs.Chars.{charsOf};
+ghost use Rattle.utf8.specs.Chars.{charsOf, CheckedAs};
 ghost use Rattle.utf8.specs.CountLaws.{Passed};
 ghost use Rattle.utf8.specs.Blocks.{one, howMany, isHigh, isLow, AsciiTo};
 
@@ -55,15 +55,15 @@ pub fn valid_prefix(text: &[u8]) -> usize
 
 // The check of a text: its longest prefix that is UTF-8, and the characters there.
 pub fn check(text: &[u8]) -> Checked
-    ensures { λ r. ⌜ (r .valid ≡ validPrefix (now (text .entry))) × (r .chars ≡ length (charsOf (now (text .entry)) 0 (validPrefix (now (text .entry))))) ⌝ }
+    ensures { λ r. ⌜ CheckedAs (now (text .entry)) (r .valid) (r .chars) ⌝ }
 {
     check_from(text, 0)
 }
 
-// The same, for a caller that mostly has short texts: one that is ASCII is told in place. A call would save and load a dozen registers, an eighth of what it takes
-// to read `{}`.
+// The same, for a caller that mostly has short texts: one that is ASCII is told in place. A call would save and load its caller's registers, which counts for a
+// text of two bytes.
 pub fn check_in_place(text: &[u8]) -> Checked
-    ensures { λ r. ⌜ (r .valid ≡ validPrefix (now (text .entry))) × (r .chars ≡ length (charsOf (now (text .entry)) 0 (validPrefix (now (text .entry))))) ⌝ }
+    ensures { λ r. ⌜ CheckedAs (now (text .entry)) (r .valid) (r .chars) ⌝ }
 {
     let n = text.len();
     if is_short_ascii(text) {
@@ -72,7 +72,7 @@ pub fn check_in_place(text: &[u8]) -> Checked
     check(text)
 }
 
-// Whether a text is shorter than a block, and ASCII.
+// Whether a text is shorter than a block, and ASCII; longer ones are passed quicker by blocks.
 fn is_short_ascii(text: &[u8]) -> bool
     ensures { λ r. ⌜ (r ≡ true → howMany isHigh (now (text .entry)) 0 (length (now (text .entry))) ≡ 0) ⌝ }
 {

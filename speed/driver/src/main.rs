@@ -186,6 +186,7 @@ fn member_template(reader: &mut Reader) {
 fn stack_of_a_call(reader: &mut Reader) {
     let mut texts = texts::large(SIZE);
     texts.extend(texts::short());
+    texts.extend(texts::seldom(SIZE));
     let most = texts.iter().map(|text| stack::of(&mut || { black_box(reader.read(&text.bytes)); })).max();
     println!("stack of a call: {} bytes at most over these texts", most.unwrap_or(0));
 }

@@ -40,6 +40,10 @@ pub fn seldom(size: usize) -> Vec<Text> {
         text("the name `r`", "Sample {r} of {name} was read twice.\n"),
         text("over range", "Sample {99999} of {name} was read twice.\n"),
         text("names in Thai and Hebrew", "Sample {ก} of {ש} was read twice.\n"),
+        text("names in Tamil and Georgian", "Sample {அ} of {ა} was read twice.\n"),
+        text("raw names", "Sample {r#a} of {name} was read twice.\n"),
+        text("fields", "Sample {a.b} of {name} was read twice.\n"),
+        text("`?` without a colon", "Sample {a?} of {name} was read twice.\n"),
     ]
 }
 

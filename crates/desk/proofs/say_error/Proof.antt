@@ -10,8 +10,8 @@ slice-aggregate-opened c = search needs
 opened-requires : tie.Need-opened-requires
 opened-requires c κs = search needs
 
-say-first-requires : tie.Need-say-first-requires
-say-first-requires c κs = opened-small _ _ _ (c .before .before .opened .ensures) (c .if1 .taken)
+say-first-error-requires : tie.Need-say-first-error-requires
+say-first-error-requires c κs = opened-small _ _ _ (c .before .before .opened .ensures) (c .if1 .taken)
 
 returns : tie.Need-returns
 returns c = search needs
@@ -20,4 +20,4 @@ returns-2 : tie.Need-returns-2
 returns-2 c = search needs
 
 pub say-error-spec : {M : Type 1} → statement M
-say-error-spec = tie.close (tie.spec slice-aggregate-opened opened-requires say-first-requires returns returns-2)
+say-error-spec = tie.close (tie.spec slice-aggregate-opened opened-requires say-first-error-requires returns returns-2)

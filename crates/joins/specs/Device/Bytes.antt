@@ -1,4 +1,4 @@
--- Readings joined are a reading of the joined bytes. Rests on Elements, and on grammar's Splits.
+-- Readings joined are a reading of the joined bytes. Rests on Elements, and on unique's Splits.
 use mathlib.Core.Path.{_≡_, refl, ap, sym, subst, _∙_}
 use mathlib.Core.Logic.{_⊎_, inl, inr, ⊎-elim}
 use mathlib.Core.List.{List, [], _∷_, _++_, append-assoc}

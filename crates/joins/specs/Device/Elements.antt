@@ -1,4 +1,4 @@
--- Elements joined: a run that follows a literal is taken into it, and what fitted fits. Rests on grammar's Grammar and Device/Splits.
+-- Elements joined: a run that follows a literal is taken into it, and what fitted fits. Rests on grammar's Grammar and unique's Splits.
 use mathlib.Core.Path.{_≡_, refl, ap, sym, _∙_}
 use mathlib.Core.Logic.{_≢_, inl, inr}
 use mathlib.Core.List.{List, [], _∷_, _++_, append-assoc, append-nil}

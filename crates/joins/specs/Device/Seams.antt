@@ -1,4 +1,4 @@
--- A text that has a reading and is not empty ends in `:}` where it does so after another. Rests on grammar's case that `}` has none.
+-- A text that has a reading and is not empty ends in `:}` where it does so after another. Rests on unique's case that `}` has none.
 use mathlib.Core.Path.{_≡_, refl, ap, subst}
 use mathlib.Core.Logic.{_≢_, inl, inr, ⊎-elim}
 use mathlib.Core.List.{List, [], _∷_, _++_}

@@ -1,4 +1,4 @@
--- Two texts without errors, joined: no error, and the pieces of both, met. Rests on Bytes, Moves, Meets and grammar's Readings.
+-- Two texts without errors, joined: no error, and the pieces of both, met. Rests on Bytes, Moves, Meets and unique's Readings.
 use mathlib.Core.Path.{_≡_, ap, _∙_}
 use mathlib.Core.List.{List, [], _++_}
 use Prim.Native.Nat.{ℕ}

@@ -1,4 +1,4 @@
--- The plain form of each element, and that it fits wherever the element did. Rests on Digits, and on grammar's Grammar and Device.
+-- The plain form of each element, and that it fits wherever the element did. Rests on Digits, and on grammar's Grammar and unique's Device.
 use mathlib.Core.Path.{_≡_, refl, ap, sym, _∙_}
 use mathlib.Core.Logic.{_≢_, inr}
 use mathlib.Core.List.{List, [], _∷_, _++_}

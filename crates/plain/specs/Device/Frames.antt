@@ -1,4 +1,4 @@
--- What pieces say does not go by the frame. Rests on Said and grammar's AnyFrame.
+-- What pieces say does not go by the frame. Rests on Said and unique's AnyFrame.
 use mathlib.Core.Path.{_≡_, refl, ap, sym, _∙_}
 use mathlib.Core.List.{List, [], _∷_}
 use Prim.Native.Nat.{ℕ}

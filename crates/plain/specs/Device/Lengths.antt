@@ -1,4 +1,4 @@
--- A plain element takes no more bytes than the element did. Rests on Elements and Digits, and on grammar's sizes.
+-- A plain element takes no more bytes than the element did. Rests on Elements and Digits, and on unique's laws of sizes.
 use mathlib.Core.Path.{_≡_, refl, ap}
 use mathlib.Core.List.{List, [], _∷_, _++_}
 use Prim.Native.Nat.{ℕ, _≤_}

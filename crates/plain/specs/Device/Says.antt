@@ -1,5 +1,5 @@
 -- What the pieces of elements say, from the elements alone: where their codes stand in the text, each range has the bytes of its own.
--- Rests on Said, and on grammar's Pieces and Device/Splits.
+-- Rests on Said, and on grammar's Pieces and unique's Splits.
 use mathlib.Core.Path.{_≡_, refl, ap, _∙_}
 use mathlib.Core.List.{List, [], _∷_, _++_, append-nil}
 use mathlib.Core.Bool.{false}

@@ -1,4 +1,4 @@
--- An accepted text, its plain form and what both say, from its reading. Rests on Says, Same, Forms, Codes, Lengths and grammar's Readings.
+-- An accepted text, its plain form and what both say, from its reading. Rests on Says, Same, Forms, Codes, Lengths and unique's Readings.
 use mathlib.Core.Path.{_≡_, ap, sym, subst, _∙_}
 use mathlib.Core.List.{List, []}
 use Prim.Native.Nat.{ℕ, _≤_}

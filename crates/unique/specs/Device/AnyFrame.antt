@@ -1,4 +1,4 @@
--- The frame changes spans alone: part by part, what two frames give is the same but for spans. Rests on Spanless.
+-- The frame changes spans alone: part by part, what two frames give is the same but for spans. Rests on grammar's Spanless.
 use mathlib.Core.Path.{_≡_, refl, ap, sym, _∙_}
 use mathlib.Core.List.{List, [], _∷_, map}
 use mathlib.Core.Bool.{Bool, true, false}

@@ -1,5 +1,5 @@
 -- The grammar's words for characters beside the tests that the reading asks, and the classes of characters by which what is left of a
--- placeholder can begin. Rests on Runs and on `utf8`'s laws of the three questions.
+-- placeholder can begin. Rests on Runs and on `letters`' laws of the three questions.
 use mathlib.Core.Path.{_≡_, refl, sym, _∙_}
 use mathlib.Core.Logic.{inl, inr}
 use mathlib.Core.List.{List, [], _∷_}

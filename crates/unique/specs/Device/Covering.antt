@@ -1,5 +1,5 @@
 -- The bytes are covered: each step starts where the one before it ended, and passes something; and kind 1 tells a stop before the end. Rests on
--- Cover and Alone, and on the laws by which the leaves and the placeholder go forward and stay within the text.
+-- grammar's Cover and on Alone, and on the laws by which the leaves and the placeholder go forward and stay within the text.
 use mathlib.Core.Path.{_≡_, refl, ap, sym, _∙_}
 use mathlib.Core.Logic.{_≢_, _⊎_, inl, inr, ⊎-elim}
 use mathlib.Core.List.{List, _∷_, _++_}

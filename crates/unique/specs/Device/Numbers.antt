@@ -1,4 +1,4 @@
--- Implicit places and stars of the pieces of elements go n, n + 1, n + 2 onward, a star before its own place. Rests on Pieces and Numbering.
+-- Implicit places and stars of the pieces of elements go n, n + 1, n + 2 onward, a star before its own place. Rests on grammar's Pieces and Numbering.
 use mathlib.Core.Path.{refl}
 use mathlib.Core.List.{List, [], _∷_}
 use Prim.Native.Nat.{ℕ, _+_}

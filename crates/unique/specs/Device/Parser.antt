@@ -1,4 +1,4 @@
--- The parser over codes. Each part takes what it can, leaves the rest, and says whether what it took is right. Rests on Grammar's elements.
+-- The parser over codes. Each part takes what it can, leaves the rest, and says whether what it took is right. Rests on the elements of grammar's Grammar.
 use mathlib.Core.List.{List, [], _∷_}
 use mathlib.Core.Bool.{Bool, true, false, not, _||_, _&&_}
 use Prim.Native.Nat.{ℕ, zero, suc}

@@ -1,4 +1,4 @@
--- Runs of codes: a run taken as far as it goes, and small laws of lists and tests. Rests on Grammar's `All`.
+-- Runs of codes: a run taken as far as it goes, and small laws of lists and tests. Rests on `All` of grammar's Grammar.
 use mathlib.Core.Path.{_≡_, refl}
 use mathlib.Core.List.{List, [], _∷_, _++_}
 use mathlib.Core.Bool.{Bool, true, false, _&&_, false≢true}

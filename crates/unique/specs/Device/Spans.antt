@@ -1,4 +1,4 @@
--- Spans within a text: a place before the end starts in the snippet at its byte and the quote offset. Rests on Pieces' spans.
+-- Spans within a text: a place before the end starts in the snippet at its byte and the quote offset. Rests on the spans of grammar's Pieces.
 use mathlib.Core.Path.{_≡_}
 use mathlib.Core.List.{List}
 use Prim.Native.Nat.{ℕ, _+_, _≤_, _<_}

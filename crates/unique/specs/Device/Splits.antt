@@ -1,4 +1,4 @@
--- What is written before a text is what is written before nothing, and then the text. Rests on Grammar.
+-- What is written before a text is what is written before nothing, and then the text. Rests on grammar's Grammar.
 use mathlib.Core.Path.{_≡_, refl, ap, sym, _∙_}
 use mathlib.Core.List.{List, [], _∷_, _++_, append-assoc}
 use mathlib.Core.Bool.{Bool, true, false}

@@ -1,5 +1,5 @@
 -- Where codes stand in a text, and what the leaves of the reading come to there: a character, whitespace, literal text.
--- Rests on Pieces' sizes, and on the laws of characters and runs of `utf8`.
+-- Rests on the sizes of grammar's Pieces, and on the laws of characters and runs of `utf8`.
 use mathlib.Core.Path.{_≡_, refl, ap, sym, _∙_}
 use mathlib.Core.List.{List, [], _∷_, _++_}
 use mathlib.Core.Bool.{Bool, true, false}

@@ -1,4 +1,4 @@
--- No piece of elements has a number that is over range: what is written under the grammar is answered as itself. Rests on Pieces and Ranges.
+-- No piece of elements has a number that is over range: what is written under the grammar is answered as itself. Rests on grammar's Pieces and Ranges.
 use mathlib.Core.List.{List, [], _∷_}
 use Prim.Native.Nat.{ℕ, _+_}
 use Rattle.grammar.specs.Grammar.{Position, next, number, word, Width, implied, fixed, byArgument, byName, Precision, undotted, star, dot, SpecText, formatSpec, unmodified, modifier, freeText, Tail, bare, colon, Element, run, opened, closed, placeholder}

@@ -39,7 +39,7 @@ byte-requires c κs = search needs
 pass-doubled-requires : tie.Need-pass-doubled-requires
 pass-doubled-requires c κs =
     let s = c .before .before .before .before .before .before .before .before .before .before .pre in
-    (s .0, s .2, inr (c .before .before .before .if3 .taken, sym (c .before .before .byte .ensures) ∙ c .before .if4 .taken), c .before .before .before .before .before .before .if1 .left)
+    (s .0, s .2, inr (c .before .before .before .if3 .taken, sym (c .before .before .byte .ensures) ∙ c .before .if4 .taken))
 
 same-length-2 : tie.Need-same-length-2
 same-length-2 c = search needs

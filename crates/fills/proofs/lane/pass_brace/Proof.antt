@@ -17,7 +17,7 @@ byte-requires c κs = search needs
 pass-doubled-requires : tie.Need-pass-doubled-requires
 pass-doubled-requires c κs =
     let s = c .before .before .before .before .before .pre in
-    (s .0, s .2, inl (s .3, sym (c .before .before .byte .ensures) ∙ c .before .if1 .taken), s .4)
+    (s .0, s .2, inl (s .3, sym (c .before .before .byte .ensures) ∙ c .before .if1 .taken))
 
 same-length : tie.Need-same-length
 same-length c = search needs

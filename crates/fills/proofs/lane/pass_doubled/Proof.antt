@@ -2,23 +2,24 @@
 use borrow.Author.Needs.{needs}
 use Prim.Native.Nat.{_+_}
 use mathlib.Core.Path.{ap, _∙_}
+use native.Mathlib.Omega.{arith}
 use denote.Ref.{now}
 use Rattle.frame.specs.Places.{place, rangeOf}
 use Rattle.frame.specs.declared.Mode.{Mode}
 use Rattle.frame.specs.declared.TextPlace.{TextPlace}
 use Rattle.reading.specs.declared.Step.{Step}
-use Rattle.fills.proofs.Stepping.{step-doubled}
+use Rattle.fills.proofs.Stepping.{doubled-within, step-doubled}
 use Rattle.fills.proofs.lane.pass_doubled.Statement.{statement}
 use Rattle.fills.proofs.lane.pass_doubled.Tie as tie
 
 add-t9 : tie.Need-add-t9
-add-t9 c = search needs
+add-t9 c = let s = c .before .before in omega (arith, s .pre .0 .text, doubled-within (now (s .args .text)) (s .args .state .at .0) (s .pre .2))
 
 whole-requires : tie.Need-whole-requires
 whole-requires c κs = search needs
 
 add-t9-2 : tie.Need-add-t9-2
-add-t9-2 c = search needs
+add-t9-2 c = let s = c .before .before .before in omega (arith, s .pre .0 .text, doubled-within (now (s .args .text)) (s .args .state .at .0) (s .pre .2))
 
 string-end-requires : tie.Need-string-end-requires
 string-end-requires c κs = search needs
@@ -27,7 +28,7 @@ pass-literal-requires : tie.Need-pass-literal-requires
 pass-literal-requires c κs =
     let s = c .before .before .before .before .before in
     let a = s .args in
-    (ap (λ (p : TextPlace). Step.Literal (rangeOf (place (a .state .at .0 + 1)) p)) (rw (c .before .before .whole .ensures) at (c .before .string-end .ensures)) ∙ step-doubled (now (a .text)) (a .frame) Mode.Format (a .state) (s .pre .3) (s .pre .2), s .pre .1)
+    (ap (λ (p : TextPlace). Step.Literal (rangeOf (place (a .state .at .0 + 1)) p)) (rw (c .before .before .whole .ensures) at (c .before .string-end .ensures)) ∙ step-doubled (now (a .text)) (a .frame) Mode.Format (a .state) (doubled-within (now (a .text)) (a .state .at .0) (s .pre .2)) (s .pre .2), s .pre .1)
 
 same-length : tie.Need-same-length
 same-length c = search needs

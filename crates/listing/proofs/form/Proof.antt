@@ -1,18 +1,18 @@
--- `listing::pair` meets its contract. The invariant: `i` is at most the form's length, and the buffer keeps its length. Assumes nothing.
+-- `listing::form` meets its contract. The invariant: `i` is at most the shape's length, and the buffer keeps its length. Assumes nothing.
 use Prim.Native.Nat.{_≤_, _-_}
 use mathlib.Core.Logic.{⊎-elim}
 use mathlib.Core.Path.{_≡_, _∙_}
 use native.Mathlib.Omega.{arith}
 use borrow.Author.Needs.{needs}
 use lib.ListN.{length}
-use Rattle.listing.proofs.pair.Statement.{statement}
-use Rattle.listing.proofs.pair.Tie as tie
+use Rattle.listing.proofs.form.Statement.{statement}
+use Rattle.listing.proofs.form.Tie as tie
 
 abbrev Inv-loop : tie.InvT-loop
-Inv-loop out₀ used form first second n₀ next₀ i₀ out n next i = (i ≤ length form) × (length out ≡ length out₀)
+Inv-loop out₀ used shape first second n₀ next₀ i₀ out n next i = (i ≤ length shape) × (length out ≡ length out₀)
 
 abbrev μ-loop : tie.MeasureT-loop
-μ-loop out₀ used form first second n₀ next₀ i₀ out n next i = length form - i
+μ-loop out₀ used shape first second n₀ next₀ i₀ out n next i = length shape - i
 
 loop-holds : tie.Need-loop-holds Inv-loop μ-loop
 loop-holds c = search needs
@@ -46,8 +46,8 @@ same-length c = c .before .loop .inv .1
 returns : tie.Need-returns Inv-loop μ-loop
 returns c = search needs
 
-pub pair-spec : {M : Type 1} → statement M
-pair-spec =
+pub form-spec : {M : Type 1} → statement M
+form-spec =
     tie.close
     (tie.spec
     Inv-loop
