@@ -43,7 +43,6 @@ pub fn seldom(size: usize) -> Vec<Text> {
         text("names in Tamil and Georgian", "Sample {அ} of {ა} was read twice.\n"),
         text("raw names", "Sample {r#a} of {name} was read twice.\n"),
         text("fields", "Sample {a.b} of {name} was read twice.\n"),
-        text("`?` without a colon", "Sample {a?} of {name} was read twice.\n"),
     ]
 }
 
