@@ -3,7 +3,6 @@ use closing::recover::Gap;
 use closing::recover::Hint;
 use closing::recover::Recovery;
 use closing::whole::Closing;
-use closing::whole::PlaceholderRead;
 use frame::Frame;
 use frame::Span;
 use frame::TextPlace;
@@ -111,15 +110,18 @@ fn closing_fault(brace: TextPlace, closing: Closing, k: usize) -> Fault
     }
 }
 
-// The k-th of what a placeholder found wrong: its argument's five, then those at its end.
-fn placeholder_fault(read: PlaceholderRead, k: usize) -> Fault
-    ensures { λ r. ⌜ r ≡ getD (stepSlots (Step.Placeholder read)) k Fault.Clean ⌝ }
+// The k-th of what a placeholder found wrong: its argument's five, then those at its end. Only they are handed on: all that was read would be copied for each.
+fn placeholder_fault(
+    flaws: ArgumentFlaws,
+    brace: TextPlace,
+    closing: Closing,
+    k: usize,
+) -> Fault
+    ensures { λ r. ⌜ r ≡ getD (argumentSlots flaws ++ closingSlots brace closing) k Fault.Clean ⌝ }
 {
     if k < 5 {
-        return of_flaw(argument_flaw(read.flaws, k));
+        return of_flaw(argument_flaw(flaws, k));
     }
-    let brace = read.argument.range.start;
-    let closing = read.closing;
     closing_fault(brace, closing, k - 5)
 }
 
@@ -141,7 +143,11 @@ pub fn fault_at(step: Step, k: usize) -> Fault
         Step::End => Fault::Clean,
         Step::Stop(at) => stop_fault(at, k),
         Step::Literal(_) => Fault::Clean,
-        Step::Placeholder(read) => placeholder_fault(read, k),
+        Step::Placeholder(read) => {
+            let brace = read.argument.range.start;
+            let closing = read.closing;
+            placeholder_fault(read.flaws, brace, closing, k)
+        }
     }
 }
 
@@ -193,7 +199,7 @@ fn is_sound(flaws: ArgumentFlaws, closing: Closing) -> bool
 }
 
 // Whether there is nothing to walk over.
-fn is_clear(step: Step) -> bool
+pub fn is_clear(step: Step) -> bool
     ensures { λ r. ⌜ (r ≡ true → wrong (stepSlots step) ≡ []) ⌝ }
 {
     match step {

@@ -15,7 +15,6 @@ use Rattle.placeholder.specs.declared.ArgumentFlaws.{ArgumentFlaws}
 use Rattle.closing.specs.declared.recover.Gap.{Gap}
 use Rattle.closing.specs.declared.recover.Recovery.{Recovery}
 use Rattle.closing.specs.declared.whole.Closing.{Closing}
-use Rattle.closing.specs.declared.whole.PlaceholderRead.{PlaceholderRead}
 use Rattle.reading.specs.Faults.{isClean, flawFault, gapFault, hintFault, argumentSlots, missingSlots, closingSlots, stepSlots, wrong}
 use Rattle.reading.specs.declared.Fault.{Fault}
 use Rattle.reading.specs.declared.Step.{Step}
@@ -95,18 +94,18 @@ pub stop-past : (at : TextPlace) (k : ℕ) → 1 ≤ k → getD (stepSlots (Step
 unfolding stepSlots
 stop-past at k h = List·getD-eq-default (Fault.Unmatched at ∷ []) Fault.Clean h
 
-module _ (read : PlaceholderRead) (k : ℕ) where
+module _ (flaws : ArgumentFlaws) (brace : TextPlace) (closing : Closing) (k : ℕ) where
   -- a placeholder's first five slots are its argument's
   pub placeholder-argument : k < 5 →
-      getD (stepSlots (Step.Placeholder read)) k Fault.Clean ≡ getD (argumentSlots (read .flaws)) k Fault.Clean
-  unfolding argumentSlots stepSlots
-  placeholder-argument h = List·getD-append (argumentSlots (read .flaws)) (closingSlots (read .argument .range .start) (read .closing)) Fault.Clean k h
+      getD (argumentSlots flaws ++ closingSlots brace closing) k Fault.Clean ≡ getD (argumentSlots flaws) k Fault.Clean
+  unfolding argumentSlots
+  placeholder-argument h = List·getD-append (argumentSlots flaws) (closingSlots brace closing) Fault.Clean k h
 
   -- the others those of its end
   pub placeholder-closing : 5 ≤ k →
-      getD (stepSlots (Step.Placeholder read)) k Fault.Clean ≡ getD (closingSlots (read .argument .range .start) (read .closing)) (k - 5) Fault.Clean
-  unfolding argumentSlots stepSlots
-  placeholder-closing h = getD-past (argumentSlots (read .flaws)) (closingSlots (read .argument .range .start) (read .closing)) k Fault.Clean h
+      getD (argumentSlots flaws ++ closingSlots brace closing) k Fault.Clean ≡ getD (closingSlots brace closing) (k - 5) Fault.Clean
+  unfolding argumentSlots
+  placeholder-closing h = getD-past (argumentSlots flaws) (closingSlots brace closing) k Fault.Clean h
 
 -- a clean slot is passed
 pub clean-slot : (xs : List Fault) (k : ℕ) → isClean (getD xs k Fault.Clean) ≡ true → wrong (drop k xs) ≡ wrong (drop (k + 1) xs)

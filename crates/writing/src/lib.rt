@@ -83,8 +83,19 @@ pub fn put_fault(
     }
 }
 
-// What a step found wrong: the record of each fault, in the order of reading.
+// What a step found wrong, if anything: most find nothing, and are not copied for the walk.
 fn put_faults(text: &[u8], frame: Frame, step: Step, errors: &mut [u32], extent: Extent) -> Extent
+    requires { ⌜ Small (now text) frame × Room (notedBy extent (now errors)) (noticed (extent .pieces) (stepSlots step)) ⌝ }
+    ensures { λ r. ⌜ Notes (now (text .entry)) frame extent (now (errors .entry)) (stepSlots step) r (now (errors .exit)) ⌝ }
+{
+    if faults::is_clear(step) {
+        return extent;
+    }
+    walk_faults(text, frame, step, errors, extent)
+}
+
+// The record of each fault, in the order of reading.
+fn walk_faults(text: &[u8], frame: Frame, step: Step, errors: &mut [u32], extent: Extent) -> Extent
     requires { ⌜ Small (now text) frame × Room (notedBy extent (now errors)) (noticed (extent .pieces) (stepSlots step)) ⌝ }
     ensures { λ r. ⌜ Notes (now (text .entry)) frame extent (now (errors .entry)) (stepSlots step) r (now (errors .exit)) ⌝ }
 {

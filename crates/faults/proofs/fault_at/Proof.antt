@@ -33,7 +33,8 @@ unfolding stepSlots
 returns-3 c = rw (c .enum-told2 .given .1)
 
 returns-4 : tie.Need-returns-4
-returns-4 c = rw (c .before .before .step2 .given .1, ← c .placeholder-fault .ensures)
+unfolding stepSlots
+returns-4 c = rw (c .before .before .before .step2 .given .1, ← c .placeholder-fault .ensures)
 
 pub fault-at-spec : {M : Type 1} → statement M
 fault-at-spec =

@@ -11,13 +11,13 @@ of-flaw-requires : tie.Need-of-flaw-requires
 of-flaw-requires c κs = tt
 
 returns : tie.Need-returns
-returns c = c .of-flaw .ensures ∙ c .before .argument-flaw .ensures ∙ sym (placeholder-argument _ _ (c .before .before .if1 .taken))
+returns c = c .of-flaw .ensures ∙ c .before .argument-flaw .ensures ∙ sym (placeholder-argument _ _ _ _ (c .before .before .if1 .taken))
 
 closing-fault-requires : tie.Need-closing-fault-requires
 closing-fault-requires c κs = tt
 
 returns-2 : tie.Need-returns-2
-returns-2 c = c .closing-fault .ensures ∙ sym (placeholder-closing _ _ (c .before .before .if1 .left))
+returns-2 c = c .closing-fault .ensures ∙ sym (placeholder-closing _ _ _ _ (c .before .if1 .left))
 
 pub placeholder-fault-spec : {M : Type 1} → statement M
 placeholder-fault-spec =
