@@ -111,12 +111,7 @@ fn closing_fault(brace: TextPlace, closing: Closing, k: usize) -> Fault
 }
 
 // The k-th of what a placeholder found wrong: its argument's five, then those at its end. Only they are handed on: all that was read would be copied for each.
-fn placeholder_fault(
-    flaws: ArgumentFlaws,
-    brace: TextPlace,
-    closing: Closing,
-    k: usize,
-) -> Fault
+fn placeholder_fault(flaws: ArgumentFlaws, brace: TextPlace, closing: Closing, k: usize) -> Fault
     ensures { λ r. ⌜ r ≡ getD (argumentSlots flaws ++ closingSlots brace closing) k Fault.Clean ⌝ }
 {
     if k < 5 {

@@ -4,10 +4,11 @@ use mathlib.Core.Path.{_≡_, refl, sym, _∙_, ap}
 use mathlib.Core.Bool.{Bool, true, false, true≢false}
 use mathlib.Core.List.{List}
 use native.Mathlib.Omega.{arith}
-use borrow.Author.Tests.{eqb-true, eq-eqb, le-ltb}
+use borrow.Author.Tests.{eqb-true, eq-eqb, ne-eqb, le-ltb}
 use lib.Dec.{eqb}
 use lib.ListN.{length, getD}
 use Rattle.utf8.specs.Choice.{pick, both, within}
+use Rattle.utf8.specs.ChoiceLaws.{both-false}
 use Rattle.utf8.specs.Chars.{runEnd}
 use Rattle.letters.specs.Ascii.{asciiStart}
 use Rattle.letters.specs.Questions.{isSpace}
@@ -18,7 +19,7 @@ use Rattle.quick.specs.declared.PlaceholderTold.{PlaceholderTold}
 use Rattle.quick.specs.declared.SignHint.{SignHint}
 use Rattle.quick.specs.declared.SpecTold.{SpecTold}
 use Rattle.quick.specs.declared.TypeTold.{TypeTold}
-use Rattle.quick.specs.PartsTold.{Known, blankWord, signByte, onwardOf, TypeKnown, AllTold, SpecKnown, NoSpec, PlaceEnds}
+use Rattle.quick.specs.PartsTold.{Known, blankWord, rawWord, signByte, typeNone, onwardOf, TypeKnown, AllTold, SpecKnown, NoSpec, PlaceEnds}
 use Rattle.quick.specs.Tellings.{Tells}
 use Rattle.quick.proofs.Bytes.{word-none, no-space}
 use Rattle.quick.proofs.Endings.{brace-silent}
@@ -37,6 +38,11 @@ no-blank b at end n = go (eqb b 0x5F) refl (eqb end (at + 1)) refl
     go true p false _ = refl
     go true p true q = absurd (n (eqb-true b 0x5F p) (eqb-true end (at + 1) q))
 
+-- and a longer word is no raw name's `r`
+pub no-raw : (t : List ℕ) (b at end : ℕ) → (end ≡ at + 1 → ⊥) → rawWord t b at end ≡ false
+unfolding rawWord
+no-raw t b at end n = rw (ne-eqb end (at + 1) n, both-false)
+
 -- AT A CLOSING BRACE no word starts, and there is no type
 brace-start : asciiStart 0x7D ≡ false
 unfolding asciiStart within
@@ -47,7 +53,7 @@ unfolding signByte pick
 brace-sign = refl
 
 module _ {t : List ℕ} {at : ℕ} (b : getD t at 0 ≡ 0x7D) where
-  pub type-none : at ≤ length t → TypeKnown t at (record { ok = true; word = false; blank = false; end = at })
+  pub type-none : at ≤ length t → TypeKnown t at (typeNone at)
   type-none h =
       let w : wordEnd t (place at) .0 ≡ at = word-none t at {b = 0x7D} (sym b) (omega arith) brace-start in
       rw (le-ltb at at (omega arith), no-blank (getD t at 0) at at (λ _ q. omega (arith, q))) at (type-named {t = t} {at = at} {end = at} (rw b brace-sign) (sym w) h)

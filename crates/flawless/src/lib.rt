@@ -3,6 +3,7 @@
 use frame::Frame;
 use frame::TextPlace;
 use placeholder::Align;
+use placeholder::Hex;
 use placeholder::Sign;
 use quick::PartTold;
 use quick::PlaceholderTold;
@@ -32,7 +33,7 @@ ghost use Rattle.words.specs.Layout.{specWords, argumentWords};
 ghost use Rattle.told.specs.Told.{Put, Flawless};
 ghost use Rattle.flawless.specs.Closed.{Ends, SpecEnds};
 
-// The place of an argument. The words `r`, which may begin a raw name, and `_` are not told.
+// The place of an argument. A raw name and the word `_` are not told.
 fn place(text: &[u8], at: usize) -> PartTold
     requires { ⌜ Room (now text) at ⌝ }
     ensures { λ r. ⌜ PlaceTold (now (text .entry)) at r × (r .blank ≡ false) ⌝ }
@@ -46,7 +47,7 @@ fn place(text: &[u8], at: usize) -> PartTold
         return quick::nothing(at);
     }
     if end == at + 1 {
-        if b == b'r' {
+        if quick::is_raw(text, b, at, end) {
             return quick::untold(at);
         }
         if b == b'_' {
@@ -63,12 +64,7 @@ fn type_at(text: &[u8], at: usize, from: usize, word: usize) -> TypeTold
 {
     let b = utf8::byte(text, at);
     if b == b'}' {
-        return TypeTold {
-            ok: true,
-            word: false,
-            blank: false,
-            end: at,
-        };
+        return quick::no_type(at);
     }
     if quick::is_type_sign(b) {
         return quick::sign_type(text, at);
@@ -119,8 +115,10 @@ fn left_spec(at: usize) -> SpecTold
         precision: quick::nothing(at),
         typed: TypeTold {
             ok: false,
+            hex: Hex::Absent,
             word: false,
             blank: false,
+            from: at,
             end: at,
         },
         given: 0,
@@ -168,7 +166,7 @@ fn write_spec(
     }
     put_told_count(&mut *out, k + 16, text, frame, width.end, precision, next);
     let typed = type_at(text, precision.end, from, word.end);
-    put_told_type(out, k + 24, text, frame, precision.end, typed);
+    put_told_type(out, k + 24, text, frame, typed);
     SpecTold {
         ok: ends(text, flag.ate, from, width, typed),
         fill,

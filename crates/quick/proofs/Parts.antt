@@ -1,5 +1,5 @@
 -- What is told of each part is what is read, from the bytes at its place. Rests on Bytes and on the definitions of `scan` and `placeholder`.
-use Prim.Native.Nat.{ℕ, zero, suc, _+_, _≤_, _<_}
+use Prim.Native.Nat.{ℕ, zero, suc, _+_, _-_, _≤_, _<_}
 use mathlib.Core.Path.{_≡_, refl, sym, ap, _∙_}
 use mathlib.Core.Bool.{Bool, true, false, true≢false}
 use mathlib.Core.List.{List}
@@ -7,27 +7,31 @@ use native.Mathlib.Omega.{arith}
 use borrow.Author.Tests.{eqb-true, eqb-false, ltb-true, ltb-false, eq-eqb, ne-eqb}
 use lib.Dec.{eqb, ltb}
 use lib.ListN.{length, getD}
-use Rattle.utf8.specs.Choice.{pick}
+use Rattle.utf8.specs.Choice.{pick, both}
 use Rattle.utf8.specs.ChoiceLaws.{pick-elim}
 use Rattle.utf8.specs.Chars.{charsOf}
 use Rattle.utf8.specs.Utf8.{peekAt}
 use Rattle.utf8.specs.CharLaws.{peeked, before-past}
 use Rattle.utf8.specs.declared.Seen.the-variants.{Char, End}
 use Rattle.frame.specs.Places.{place, rangeOf}
+use Rattle.frame.specs.declared.Frame.{Frame}
 use Rattle.scan.specs.Words.{isDigit, wordEnd, wordRead}
 use Rattle.scan.specs.Counts.{isEmpty, counted, numberCount, nameCount, countRead}
 use Rattle.scan.specs.ScanLaws.{word-on, word-in}
 use Rattle.scan.specs.declared.Count.{Count}
 use Rattle.scan.specs.declared.CountRead.{CountRead}
+use Rattle.scan.specs.declared.Flaw.{Flaw}
 use Rattle.scan.specs.declared.Numeral.{Numeral}
-use Rattle.placeholder.specs.Places.{isR, wordPlace, placeRead}
+use Rattle.placeholder.specs.Places.{isR, placed, rawPlace, wordPlace, placeRead}
 use Rattle.placeholder.specs.Parts.{isImplied, fillRead, afterDot, precisionRead}
 use Rattle.placeholder.specs.Types.{hexType, isHexOrHash, debugType, wordType, typeRead}
+use Rattle.placeholder.specs.declared.Hex.{Hex}
 use Rattle.placeholder.specs.declared.MaybeSpan.{MaybeSpan}
+use Rattle.placeholder.specs.declared.position.Found.{Found}
 use Rattle.quick.specs.declared.PartTold.{PartTold}
 use Rattle.quick.specs.declared.TypeTold.{TypeTold}
-use Rattle.quick.specs.Tellings.{foundOf, countOf, widthOf, countSpan, backOf, fillOf, typeSpan, afterStar, blankFlaw}
-use Rattle.quick.specs.PartsTold.{Known, part, endsByte, alignByte, signByte, blankWord, NumberTold, PlaceTold, FillTold, CountGiven, WidthTold, PrecisionTold, TypeKnown}
+use Rattle.quick.specs.Tellings.{foundOf, countOf, widthOf, precisionOf, countSpan, backOf, fillOf, typeSpan, afterStar, blankFlaw}
+use Rattle.quick.specs.PartsTold.{Known, part, endsByte, alignByte, signByte, blankWord, rawWord, signOf, debugOf, typeWord, NumberTold, PlaceTold, FillTold, CountGiven, WidthTold, PrecisionTold, TypeKnown}
 use Rattle.quick.proofs.Bytes.{byte-in, at-byte, has, lacks, align-byte, no-number, word-told}
 
 -- a part that is not told
@@ -38,16 +42,34 @@ unknown i = part 9 0 i false
 abbrev pub none : ℕ → PartTold
 none i = part 0 0 i false
 
--- a word that is not `r`
-not-r : (t : List ℕ) (at end : ℕ) → (end ≡ at + 1 → getD t at 0 ≡ 0x72 → ⊥) → isR t (rangeOf (place at) (place end)) ≡ false
-unfolding isR pick
-not-r t at end n = go (eqb (getD t at 0) 0x72) refl
-  where
-    go : (x : Bool) → eqb (getD t at 0) 0x72 ≡ x → isR t (rangeOf (place at) (place end)) ≡ false
-    go true y =
-        let b = eqb-true (getD t at 0) 0x72 y in
-        rw (has t at 0x72 (omega arith) (omega arith) b, ne-eqb (at + 1) end (λ q. n (sym q) b))
-    go false y = rw (lacks t at 0x72 (omega arith) (omega arith) (eqb-false (getD t at 0) 0x72 y))
+-- a word that is no raw name's `r`: another word, or the word `r` with no `#` after it, which has no flaw
+module _ (t : List ℕ) (at end : ℕ) where
+  named : rawWord t (getD t at 0) at end ≡ false →
+      pick (isR t (rangeOf (place at) (place end))) (rawPlace t (rangeOf (place at) (place end)))
+      (placed (Found.Word (rangeOf (place at) (place end))) (place end) (blankFlaw (blankWord (getD t at 0) at end) at end) Flaw.Clean) ≡
+      placed (Found.Word (rangeOf (place at) (place end))) (place end) (blankFlaw (blankWord (getD t at 0) at end) at end) Flaw.Clean
+  unfolding rawWord isR rawPlace blankWord blankFlaw pick
+  named = go (eqb (getD t at 0) 0x72) refl (eqb end (at + 1)) refl (eqb (getD t end 0) 0x23) refl
+    where
+      go : (x : Bool) → eqb (getD t at 0) 0x72 ≡ x → (y : Bool) → eqb end (at + 1) ≡ y → (z : Bool) → eqb (getD t end 0) 0x23 ≡ z → both x (both y z) ≡ false →
+          pick (isR t (rangeOf (place at) (place end))) (rawPlace t (rangeOf (place at) (place end)))
+          (placed (Found.Word (rangeOf (place at) (place end))) (place end) (blankFlaw (blankWord (getD t at 0) at end) at end) Flaw.Clean) ≡
+          placed (Found.Word (rangeOf (place at) (place end))) (place end) (blankFlaw (blankWord (getD t at 0) at end) at end) Flaw.Clean
+      go true b true e true h n = absurd (true≢false n)
+      go true b true e false h n =
+          let r = eqb-true (getD t at 0) 0x72 b in
+          rw (
+            has t at 0x72 (omega arith) (omega arith) r,
+            eq-eqb (at + 1) end (sym (eqb-true end (at + 1) e)),
+            lacks t end 0x23 (omega arith) (omega arith) (eqb-false (getD t end 0) 0x23 h),
+            ne-eqb (getD t at 0) 0x5F (λ q. omega arith),
+          )
+      go true b false e z h n =
+          rw (
+            has t at 0x72 (omega arith) (omega arith) (eqb-true (getD t at 0) 0x72 b),
+            ne-eqb (at + 1) end (λ q. eqb-false end (at + 1) e (sym q)),
+          )
+      go false b y e z h n = rw (lacks t at 0x72 (omega arith) (omega arith) (eqb-false (getD t at 0) 0x72 b))
 
 -- a count is implied where nothing is told
 implied : (n : ℕ) (p : PartTold) → isImplied (countOf n p) ≡ eqb (p .tag) 0
@@ -60,10 +82,6 @@ implied n p = go (eqb (p .tag) 0) (eqb (p .tag) 1) (eqb (p .tag) 2)
     go false true c = refl
     go false false true = refl
     go false false false = refl
-
--- a sign of a type, after which a spec is at its end
-abbrev pub signOf : List ℕ → ℕ → TypeTold
-signOf t at = record { ok = endsByte (getD t (at + 1) 0); word = false; blank = false; end = at + 1 }
 
 -- such a sign is not 0
 pub sign-some : (b : ℕ) → signByte b ≡ true → 0 < b
@@ -106,15 +124,15 @@ module _ {t : List ℕ} {at : ℕ} where
   place-nothing d e h =
       record { most = λ _. omega arith; read = λ _. rw (no-number t at d, e, eq-eqb at at refl); inside = h }
 
-  -- a place that is a word, not `r`
+  -- a place that is a word, and no raw name
   pub place-word : {end : ℕ} → isDigit (getD t at 0) ≡ false → end ≡ wordEnd t (place at) .0 → (end ≡ at → ⊥) →
-      (end ≡ at + 1 → getD t at 0 ≡ 0x72 → ⊥) → at ≤ length t →
+      rawWord t (getD t at 0) at end ≡ false → at ≤ length t →
       PlaceTold t at (part 2 0 end (blankWord (getD t at 0) at end))
   unfolding placeRead wordPlace isEmpty foundOf pick
   place-word {end} d e s r h =
       record {
         most = λ _. omega arith;
-        read = λ _. rw (no-number t at d, word-told t at end e, ne-eqb at end (λ q. s (sym q)), not-r t at end r);
+        read = λ _. rw (no-number t at d, word-told t at end e, ne-eqb at end (λ q. s (sym q))) (named t at end r);
         inside = rw e (word-in t (place at) h);
       }
 
@@ -160,6 +178,7 @@ module _ {t : List ℕ} {at : ℕ} where
   width-count {p = p} g =
       record {
         most = λ k. omega (arith, g .most k);
+        starless = λ k e. omega (arith, g .most k);
         read = λ k f n. rw (g .read k f n, ne-eqb (p .tag) 4 (λ e. omega (arith, g .most k)), ne-eqb (p .tag) 0 (λ e. omega (arith, g .some k)), g .whole);
         spanned = λ k f n. rw (ne-eqb (p .tag) 4 (λ e. omega (arith, g .most k))) (implied n p);
         inside = g .inside;
@@ -170,8 +189,10 @@ module _ {t : List ℕ} {at : ℕ} where
     pub width-name : at < word → getD t word 0 ≡ 0x24 → WidthTold t at word (part 4 0 (word + 1) (blankWord (getD t at 0) at word))
     unfolding countRead nameCount isEmpty widthOf backOf pick
     width-name l b =
+        let q : word + 1 - 1 ≡ word = omega arith in
         record {
           most = λ _. omega arith;
+          starless = λ _ z. omega arith;
           read =
               λ _ f n.
               rw (
@@ -179,6 +200,7 @@ module _ {t : List ℕ} {at : ℕ} where
                 word-told t at word e,
                 ne-eqb at word (λ q. omega arith),
                 has t word 0x24 (omega arith) (omega arith) b,
+                q,
               );
           spanned = λ _ f n. refl;
           inside = let h = byte-in t word (omega arith) in omega arith;
@@ -191,6 +213,7 @@ module _ {t : List ℕ} {at : ℕ} where
     width-none b h =
         record {
           most = λ _. omega arith;
+          starless = λ _ z. omega arith;
           read =
               λ _ f n.
               rw (no-number t at d, word-told t at word e)
@@ -210,14 +233,14 @@ module _ {t : List ℕ} {at : ℕ} where
 
   -- no precision
   pub precision-none : (getD t at 0 ≡ 0x2E → ⊥) → at ≤ length t → PrecisionTold t at (none at)
-  unfolding precisionRead countOf countSpan afterStar pick
+  unfolding precisionRead precisionOf widthOf countOf countSpan afterStar pick
   precision-none b h =
       record { most = λ _. omega arith; read = λ _ f n. rw (lacks t at 0x2E (omega arith) (omega arith) b); inside = h }
 
   module _ (dot : getD t at 0 ≡ 0x2E) where
     -- a star
     pub precision-star : getD t (at + 1) 0 ≡ 0x2A → PrecisionTold t at (part 3 0 (at + 2) false)
-    unfolding precisionRead afterDot countOf countSpan afterStar pick
+    unfolding precisionRead afterDot precisionOf widthOf countOf countSpan afterStar pick
     precision-star b =
         let q : at + 1 + 1 ≡ at + 2 = omega arith in
         record {
@@ -228,23 +251,45 @@ module _ {t : List ℕ} {at : ℕ} where
           inside = let h = byte-in t (at + 1) (omega arith) in omega arith;
         }
 
-    -- a count
-    pub precision-count : {p : PartTold} → (getD t (at + 1) 0 ≡ 0x2A → ⊥) → CountGiven t (at + 1) p → PrecisionTold t at p
-    unfolding precisionRead afterDot countSpan afterStar pick
-    precision-count {p} b g =
-        record {
-          most = λ k. omega (arith, g .most k);
-          read =
-              λ k f n.
-              rw (
-                has t at 0x2E (omega arith) (omega arith) dot,
-                lacks t (at + 1) 0x2A (omega arith) (omega arith) b,
-                g .read k f n,
-                ne-eqb (p .tag) 0 (λ e. omega (arith, g .some k)),
-                ne-eqb (p .tag) 3 (λ e. omega (arith, g .most k)),
-              );
-          inside = g .inside;
-        }
+    module _ {word : ℕ} {p : PartTold} (b : getD t (at + 1) 0 ≡ 0x2A → ⊥) (w : WidthTold t (at + 1) word p) (q : p .blank ≡ false) where
+      -- what a width may be
+      pub precision-width : (Known p → p .tag ≡ 0 → ⊥) → PrecisionTold t at p
+      unfolding precisionRead afterDot precisionOf backOf blankFlaw countSpan afterStar pick
+      precision-width s =
+          record {
+            most = λ k. omega (arith, w .most k);
+            read =
+                λ k f n.
+                rw (
+                  has t at 0x2E (omega arith) (omega arith) dot,
+                  lacks t (at + 1) 0x2A (omega arith) (omega arith) b,
+                  w .read k f n,
+                  q,
+                  ne-eqb (p .tag) 0 (s k),
+                  ne-eqb (p .tag) 3 (w .starless k),
+                  ne-eqb (p .tag) 5 (λ e. omega (arith, w .most k)),
+                );
+            inside = w .inside;
+          }
+
+      -- a dot alone: no width, and no word
+      pub precision-dot : p .tag ≡ 0 → word ≡ at + 1 → PrecisionTold t at (part 5 0 (p .end) false)
+      unfolding precisionRead afterDot precisionOf widthOf countOf backOf blankFlaw countSpan afterStar pick
+      precision-dot z e =
+          record {
+            most = λ _. omega arith;
+            read =
+                λ _ f n.
+                rw (
+                  has t at 0x2E (omega arith) (omega arith) dot,
+                  lacks t (at + 1) 0x2A (omega arith) (omega arith) b,
+                  w .read (λ h. omega arith) f n,
+                  q,
+                  z,
+                  before-past t word (at + 1) (omega arith),
+                );
+            inside = w .inside;
+          }
 
   -- a fill: an align follows the character
   pub fill-some : {c w : ℕ} → peekAt t at ≡ Char c w → alignByte (getD t (at + w) 0) ≡ true → FillTold t at (at + w)
@@ -322,6 +367,39 @@ module _ {t : List ℕ} {at : ℕ} where
         inside = let h = byte-in t at (omega arith) in omega arith;
       }
 
+  -- either with the `?` after it
+  pub type-hex : signByte (getD t at 0) ≡ true → (getD t at 0 ≡ 0x3F → ⊥) → getD t (at + 1) 0 ≡ 0x3F → TypeKnown t at (debugOf (getD t at 0) at)
+  unfolding signByte typeRead hexType typeSpan blankFlaw pick
+  type-hex y d q = record { read = λ _. go (eqb (getD t at 0) 0x78) refl; inside = let h = byte-in t (at + 1) (omega arith) in omega arith }
+    where
+      two : at + 1 + 1 ≡ at + 2
+      two = omega arith
+
+      upper : eqb (getD t at 0) 0x78 ≡ false → getD t at 0 ≡ 0x58
+      upper e = eqb-true (getD t at 0) 0x58 (rw (ne-eqb (getD t at 0) 0x3F d, e) at y)
+
+      go : (x : Bool) → eqb (getD t at 0) 0x78 ≡ x → (f : Frame) →
+          typeRead t f (place at) ≡ record {
+            hex = pick x Hex.Lower Hex.Upper;
+            typetext = rangeOf (place (at + 1)) (place (at + 2));
+            span = MaybeSpan.Absent;
+            at = place (at + 2);
+            flaw = Flaw.Clean;
+          }
+      go true e f =
+          rw (
+            has t at 0x78 (omega arith) (omega arith) (eqb-true (getD t at 0) 0x78 e),
+            has t (at + 1) 0x3F (omega arith) (omega arith) q,
+            two,
+          )
+      go false e f =
+          rw (
+            lacks t at 0x78 (omega arith) (omega arith) (eqb-false (getD t at 0) 0x78 e),
+            has t at 0x58 (omega arith) (omega arith) (upper e),
+            has t (at + 1) 0x3F (omega arith) (omega arith) q,
+            two,
+          )
+
   -- any of them
   pub type-sign : signByte (getD t at 0) ≡ true → TypeKnown t at (signOf t at)
   unfolding signByte pick
@@ -336,7 +414,7 @@ module _ {t : List ℕ} {at : ℕ} where
   -- a word, or nothing
   pub type-word : {end : ℕ} → (getD t at 0 ≡ 0x3F → ⊥) → (getD t at 0 ≡ 0x78 → ⊥) → (getD t at 0 ≡ 0x58 → ⊥) →
       end ≡ wordEnd t (place at) .0 → at ≤ length t →
-      TypeKnown t at (record { ok = true; word = ltb at end; blank = blankWord (getD t at 0) at end; end = end })
+      TypeKnown t at (typeWord (getD t at 0) at end)
   unfolding typeRead wordType isEmpty typeSpan pick
   type-word {end} d l u e h =
       record {
@@ -354,7 +432,7 @@ module _ {t : List ℕ} {at : ℕ} where
 
   -- where none of them stands
   pub type-named : {end : ℕ} → signByte (getD t at 0) ≡ false → end ≡ wordEnd t (place at) .0 → at ≤ length t →
-      TypeKnown t at (record { ok = true; word = ltb at end; blank = blankWord (getD t at 0) at end; end = end })
+      TypeKnown t at (typeWord (getD t at 0) at end)
   unfolding signByte pick
   type-named n =
       type-word (λ q. true≢false (rw (eq-eqb (getD t at 0) 0x3F q) at n)) (λ q. true≢false (sign-lower q ∙ n)) (λ q. true≢false (sign-upper q ∙ n))

@@ -29,7 +29,7 @@ abbrev flagged : List ℕ → Frame → ℕ → Bool → ℕ → ℕ → PartTol
 flagged t f n zero from word p =
     record {
       zero = zero;
-      width = widthOf t f n from word p;
+      width = widthOf t f n from p;
       span = countSpan t f from p;
       at = place (p .end);
       flaw = blankFlaw (p .blank) from word;

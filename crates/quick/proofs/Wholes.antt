@@ -74,7 +74,7 @@ pub record Sound (t : List ℕ) (x : PlaceholderTold) : Type 0 where
   pub spec : (f : Frame) (n : ℕ) → specRead t f Mode.Format (place (x .to)) n ≡ specTold t f n x
   pub colon : x .colon ≡ true → getD t (x .to) 0 ≡ 0x3A
   pub wide : x .spec .width .tag ≤ 4
-  pub precise : x .spec .precision .tag ≤ 3
+  pub precise : x .spec .precision .tag ≤ 5
   pub inside : x .spec .typed .end ≤ length t
   pub closing : x .close ≡ runEnd isSpace t (x .spec .typed .end)
   pub ending : Ending t (x .place) (x .close) (x .closed) (x .hint) (x .on)

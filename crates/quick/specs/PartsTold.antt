@@ -3,7 +3,7 @@ use Prim.Native.Nat.{ℕ, _+_, _≤_, _<_}
 use mathlib.Core.Path.{_≡_}
 use mathlib.Core.Bool.{Bool, true, false}
 use mathlib.Core.List.{List}
-use lib.Dec.{eqb, leb}
+use lib.Dec.{eqb, leb, ltb}
 use lib.ListN.{length, getD}
 use Rattle.utf8.specs.Choice.{pick, both}
 use Rattle.utf8.specs.Chars.{charsOf, runEnd}
@@ -27,7 +27,7 @@ use Rattle.quick.specs.declared.WordTold.{WordTold}
 use Rattle.quick.specs.declared.TypeTold.{TypeTold}
 use Rattle.quick.specs.declared.SignHint.{SignHint}
 use Rattle.quick.specs.declared.SpecTold.{SpecTold}
-use Rattle.quick.specs.Tellings.{foundOf, countOf, widthOf, countSpan, backOf, fillOf, typeSpan, afterStar, specOf, blankFlaw}
+use Rattle.quick.specs.Tellings.{foundOf, countOf, widthOf, precisionOf, countSpan, backOf, fillOf, typeSpan, afterStar, specOf, blankFlaw}
 
 -- a place within a text of at most refusal 3's limit
 pub record Room (t : List ℕ) (at : ℕ) : Type 0 where
@@ -56,6 +56,26 @@ endsByte b = pick (eqb b 0x7D) true (eqb b 0x20)
 -- a word with a first byte, between two bytes of the text, is `_`
 unfoldable pub blankWord : ℕ → ℕ → ℕ → Bool
 blankWord b at end = both (eqb b 0x5F) (eqb end (at + 1))
+
+-- and is the `r` of a raw name: a `#` follows it
+unfoldable pub rawWord : List ℕ → ℕ → ℕ → ℕ → Bool
+rawWord t b at end = both (eqb b 0x72) (both (eqb end (at + 1)) (eqb (getD t end 0) 0x23))
+
+-- a type that is a sign, after which a spec is at its end
+abbrev pub signOf : List ℕ → ℕ → TypeTold
+signOf t at = record { ok = endsByte (getD t (at + 1) 0); hex = Hex.Absent; word = false; blank = false; from = at; end = at + 1 }
+
+-- one that is an `x` or an `X`, the byte given, with the `?` after it
+abbrev pub debugOf : ℕ → ℕ → TypeTold
+debugOf b at = record { ok = true; hex = pick (eqb b 0x78) Hex.Lower Hex.Upper; word = false; blank = false; from = at + 1; end = at + 2 }
+
+-- one that is a word with a first byte, between two bytes; none where they are the same
+abbrev pub typeWord : ℕ → ℕ → ℕ → TypeTold
+typeWord b at end = record { ok = true; hex = Hex.Absent; word = ltb at end; blank = blankWord b at end; from = at; end = end }
+
+-- no type
+abbrev pub typeNone : ℕ → TypeTold
+typeNone at = record { ok = true; hex = Hex.Absent; word = false; blank = false; from = at; end = at }
 
 -- what is said of the sign at a byte, if two characters remain
 unfoldable pub hintOf : List ℕ → ℕ → SignHint
@@ -126,17 +146,18 @@ pub record CountGiven (t : List ℕ) (at : ℕ) (p : PartTold) : Type 0 where
 -- a width, where a word ends at a byte
 pub record WidthTold (t : List ℕ) (at word : ℕ) (p : PartTold) : Type 0 where
   pub most : Known p → p .tag ≤ 4
+  pub starless : Known p → p .tag ≡ 3 → ⊥
   pub read : Known p → (f : Frame) (n : ℕ) →
-      countRead t f (place at) ≡ record { count = widthOf t f n at word p; at = place (p .end); flaw = blankFlaw (p .blank) at word; given = backOf t at word p }
-  pub spanned : Known p → (f : Frame) (n : ℕ) → isImplied (widthOf t f n at word p) ≡ eqb (p .tag) 0
+      countRead t f (place at) ≡ record { count = widthOf t f n at p; at = place (p .end); flaw = blankFlaw (p .blank) at word; given = backOf t at word p }
+  pub spanned : Known p → (f : Frame) (n : ℕ) → isImplied (widthOf t f n at p) ≡ eqb (p .tag) 0
   pub inside : p .end ≤ length t
 
 -- a precision with its dot, or none
 pub record PrecisionTold (t : List ℕ) (at : ℕ) (p : PartTold) : Type 0 where
-  pub most : Known p → p .tag ≤ 3
+  pub most : Known p → p .tag ≤ 5
   pub read : Known p → (f : Frame) (n : ℕ) →
       precisionRead t f (place at) n ≡ record {
-        precision = countOf n p;
+        precision = precisionOf t f n at p;
         span = countSpan t f at p;
         at = place (p .end);
         next = afterStar n p;
@@ -149,9 +170,9 @@ pub record PrecisionTold (t : List ℕ) (at : ℕ) (p : PartTold) : Type 0 where
 pub record TypeKnown (t : List ℕ) (at : ℕ) (k : TypeTold) : Type 0 where
   pub read : k .ok ≡ true → (f : Frame) →
       typeRead t f (place at) ≡ record {
-        hex = Hex.Absent;
-        typetext = rangeOf (place at) (place (k .end));
-        span = typeSpan t f at k;
+        hex = k .hex;
+        typetext = rangeOf (place (k .from)) (place (k .end));
+        span = typeSpan t f k;
         at = place (k .end);
         flaw = blankFlaw (k .blank) at (k .end);
       }
@@ -181,7 +202,7 @@ specFound t f at n s =
 pub record SpecKnown (t : List ℕ) (at : ℕ) (s : SpecTold) : Type 0 where
   pub read : s .ok ≡ true → (f : Frame) (n : ℕ) → formatRead t f (place at) n ≡ specFound t f at n s
   pub wide : s .ok ≡ true → s .width .tag ≤ 4
-  pub precise : s .ok ≡ true → s .precision .tag ≤ 3
+  pub precise : s .ok ≡ true → s .precision .tag ≤ 5
   pub inside : s .typed .end ≤ length t
 
 -- no spec, where reading stood

@@ -1,5 +1,5 @@
 -- What is told of a placeholder, in the records that `closing` reads. A tag of 9, and what is not `ok`, means nothing: it is not told.
-use Prim.Native.Nat.{ℕ, _+_, _≤_}
+use Prim.Native.Nat.{ℕ, _+_, _-_, _≤_}
 use mathlib.Core.Path.{_≡_}
 use mathlib.Core.Bool.{Bool, true}
 use mathlib.Core.List.{List}
@@ -25,7 +25,6 @@ use Rattle.closing.specs.Wholes.{placeholderRead}
 use Rattle.placeholder.specs.declared.Argument.{Argument}
 use Rattle.placeholder.specs.declared.ArgumentFlaws.{ArgumentFlaws}
 use Rattle.placeholder.specs.declared.Fill.{Fill}
-use Rattle.placeholder.specs.declared.Hex.{Hex}
 use Rattle.placeholder.specs.declared.MaybeSpan.{MaybeSpan}
 use Rattle.frame.specs.declared.Mode.{Mode}
 use Rattle.placeholder.specs.declared.Spec.{Spec}
@@ -54,12 +53,16 @@ countOf n p =
     (pick (eqb (p .tag) 2) (Count.ByArgument (Numeral.Within (p .value)))
     (Count.ByStar n)))
 
--- a width that starts at a byte, where a word ends at another: with `$` the word is a name
-unfoldable pub widthOf : List ℕ → Frame → ℕ → ℕ → ℕ → PartTold → Count
-widthOf t f n from word p =
+-- a width that starts at a byte: a word with `$` is a name, which ends before it
+unfoldable pub widthOf : List ℕ → Frame → ℕ → ℕ → PartTold → Count
+widthOf t f n from p =
     pick (eqb (p .tag) 4)
-    (Count.ByName (rangeOf (place from) (place word)) (spanBetween t f (place from) (place word)))
+    (Count.ByName (rangeOf (place from) (place (p .end - 1))) (spanBetween t f (place from) (place (p .end - 1))))
     (countOf n p)
+
+-- a precision whose dot stands at a byte: behind it what a width may be, or a star, or nothing
+unfoldable pub precisionOf : List ℕ → Frame → ℕ → ℕ → PartTold → Count
+precisionOf t f n dot p = pick (eqb (p .tag) 5) Count.Implied (widthOf t f n (dot + 1) p)
 
 -- the span of a count that starts at a byte
 unfoldable pub countSpan : List ℕ → Frame → ℕ → PartTold → MaybeSpan
@@ -80,8 +83,8 @@ fillOf t f at past =
     pick (eqb at past) Fill.Absent (Fill.Present (codeSeen (peekAt t at)) (spanAcross t f (place at) (place at)))
 
 -- a type's span: a word has one
-unfoldable pub typeSpan : List ℕ → Frame → ℕ → TypeTold → MaybeSpan
-typeSpan t f start k = pick (k .word) (MaybeSpan.Present (spanBetween t f (place start) (place (k .end)))) MaybeSpan.Absent
+unfoldable pub typeSpan : List ℕ → Frame → TypeTold → MaybeSpan
+typeSpan t f k = pick (k .word) (MaybeSpan.Present (spanBetween t f (place (k .from)) (place (k .end)))) MaybeSpan.Absent
 
 -- the next argument's number after a star, and after a place that is not written
 unfoldable pub afterStar : ℕ → PartTold → ℕ
@@ -96,13 +99,13 @@ specOf t f at n s =
       sign = s .sign;
       alternate = s .alternate;
       zero = s .zero;
-      hex = Hex.Absent;
-      width = widthOf t f n (s .from) (s .word) (s .width);
+      hex = s .typed .hex;
+      width = widthOf t f n (s .from) (s .width);
       widthspan = countSpan t f (s .from) (s .width);
-      precision = countOf n (s .precision);
+      precision = precisionOf t f n (s .width .end) (s .precision);
       precisionspan = countSpan t f (s .width .end) (s .precision);
-      typetext = rangeOf (place (s .precision .end)) (place (s .typed .end));
-      typespan = typeSpan t f (s .precision .end) (s .typed);
+      typetext = rangeOf (place (s .typed .from)) (place (s .typed .end));
+      typespan = typeSpan t f (s .typed);
     }
 
 -- the argument whose opening brace stands at a byte
@@ -169,7 +172,7 @@ pub record Tells (t : List ℕ) (at : ℕ) (x : PlaceholderTold) : Type 0 where
   pub read : x .ok ≡ true → (f : Frame) (brace n : ℕ) → at ≡ brace + 1 → placeholderRead t f Mode.Format (place brace) (place at) n ≡ toldRead t f brace n x
   pub placed : x .ok ≡ true → x .place .tag ≤ 2
   pub wide : x .ok ≡ true → x .spec .width .tag ≤ 4
-  pub precise : x .ok ≡ true → x .spec .precision .tag ≤ 3
+  pub precise : x .ok ≡ true → x .spec .precision .tag ≤ 5
   pub reached : x .ok ≡ true → x .to ≤ length t
   pub closed : x .ok ≡ true → x .close ≤ length t
   pub on : x .ok ≡ true → x .on ≤ length t

@@ -2,6 +2,7 @@
 // that is missing. What they tell is what `closing` reads, and what they do not tell is left to it. `told` and `flawless` write each part as soon as it is told.
 use frame::TextPlace;
 use placeholder::Align;
+use placeholder::Hex;
 use placeholder::Sign;
 use utf8::Seen;
 ghost use mathlib.Core.Path.{_≡_};
@@ -15,10 +16,10 @@ ghost use Rattle.letters.specs.Questions.{isSpace};
 ghost use Rattle.letters.specs.Ascii.{asciiContinue};
 ghost use Rattle.scan.specs.Words.{isDigit, wordEnd};
 ghost use Rattle.quick.specs.Tellings.{backOf};
-ghost use Rattle.quick.specs.PartsTold.{Room, part, alignByte, signByte, endsByte, blankWord, hintOf, onwardOf, AsciiRun, WordKnown, NumberTold, PlaceTold, FillTold, CountGiven, WidthTold, PrecisionTold, TypeKnown, AllTold, NoSpec, LeftTold};
+ghost use Rattle.quick.specs.PartsTold.{Room, part, alignByte, signByte, endsByte, blankWord, rawWord, signOf, typeWord, typeNone, hintOf, onwardOf, AsciiRun, WordKnown, NumberTold, PlaceTold, FillTold, CountGiven, WidthTold, PrecisionTold, TypeKnown, AllTold, NoSpec, LeftTold};
 
-// A place or a count. Tag 0: nothing; 1: a number; 2: of a place a word, of a count a number with `$`; 3: a star; 4: a word with `$`; 9: it is
-// not told. `blank`: the word `_` stands there, which is a fault.
+// A place or a count. Tag 0: nothing; 1: a number; 2: of a place a word, of a count a number with `$`; 3: a star; 4: a word with `$`; 5: a dot
+// alone; 9: it is not told. `blank`: the word `_` stands there, which is a fault.
 pub struct PartTold {
     pub tag: u8,
     pub value: u16,
@@ -32,11 +33,14 @@ pub struct WordTold {
     pub ascii: bool,
 }
 
-// A type: where it ends, and whether it is a word, and the word `_`. Not `ok`: it is not told.
+// A type: where its text starts and ends, and whether it is a word, and the word `_`. The text of `x?` and `X?` is the `?`, and what stands before it
+// is `hex`. Not `ok`: it is not told.
 pub struct TypeTold {
     pub ok: bool,
+    pub hex: Hex,
     pub word: bool,
     pub blank: bool,
+    pub from: usize,
     pub end: usize,
 }
 
@@ -228,7 +232,7 @@ pub fn given_back(text: &[u8], from: usize, word: WordTold, width: PartTold) -> 
     utf8::chars_between(whole(text), from, word.end)
 }
 
-// The place of an argument. The word `r` is not told: it may begin a raw name.
+// The place of an argument. A raw name is not told.
 pub fn place(text: &[u8], at: usize) -> PartTold
     requires { ⌜ Room (now text) at ⌝ }
     ensures { λ r. ⌜ PlaceTold (now (text .entry)) at r ⌝ }
@@ -241,10 +245,8 @@ pub fn place(text: &[u8], at: usize) -> PartTold
     if end == at {
         return nothing(at);
     }
-    if end == at + 1 {
-        if b == b'r' {
-            return untold(at);
-        }
+    if is_raw(text, b, at, end) {
+        return untold(at);
     }
     PartTold {
         tag: 2,
@@ -252,6 +254,20 @@ pub fn place(text: &[u8], at: usize) -> PartTold
         end,
         blank: is_blank(b, at, end),
     }
+}
+
+// Whether a word, whose first byte is given, is the `r` of a raw name: a `#` follows it.
+pub fn is_raw(text: &[u8], b: u8, at: usize, end: usize) -> bool
+    requires { ⌜ at ≤ 65535 ⌝ }
+    ensures { λ r. ⌜ r ≡ rawWord (now (text .entry)) b at end ⌝ }
+{
+    if b != b'r' {
+        return false;
+    }
+    if end != at + 1 {
+        return false;
+    }
+    utf8::byte(text, end) == b'#'
 }
 
 // Whether a word, whose first byte is given, is `_`.
@@ -355,7 +371,7 @@ pub fn width(text: &[u8], at: usize, word: usize) -> PartTold
     }
 }
 
-// The precision with its dot: a star or a number; any other is not told.
+// The precision with its dot: a star or a number; any other is not told, so that this stays small.
 pub fn precision(text: &[u8], at: usize) -> PartTold
     requires { ⌜ Room (now text) at ⌝ }
     ensures { λ r. ⌜ PrecisionTold (now (text .entry)) at r ⌝ }
@@ -373,17 +389,80 @@ pub fn precision(text: &[u8], at: usize) -> PartTold
     untold(at)
 }
 
+// Any precision that is told: a star, what a width may be, or a dot alone. A word without `$` is read and given back, and is not told, nor is the word `_`.
+pub fn any_precision(text: &[u8], at: usize) -> PartTold
+    requires { ⌜ Room (now text) at ⌝ }
+    ensures { λ r. ⌜ PrecisionTold (now (text .entry)) at r ⌝ }
+{
+    if utf8::byte(text, at) != b'.' {
+        return nothing(at);
+    }
+    let from = at + 1;
+    if utf8::byte(text, from) == b'*' {
+        return plain(3, 0, at + 2);
+    }
+    let word = word_end(text, from);
+    let count = width(text, from, word);
+    if count.blank {
+        return untold(at);
+    }
+    if count.tag != 0 {
+        return count;
+    }
+    if word != from {
+        return untold(at);
+    }
+    plain(5, 0, count.end)
+}
+
 // A sign of a type, `?`, `x` or `X`: alone it is told.
 pub fn sign_type(text: &[u8], at: usize) -> TypeTold
     requires { ⌜ Room (now text) (at + 1) ⌝ }
-    ensures { λ r. ⌜ r ≡ record { ok = endsByte (getD (now (text .entry)) (at + 1) 0); word = false; blank = false; end = at + 1 } ⌝ }
+    ensures { λ r. ⌜ r ≡ signOf (now (text .entry)) at ⌝ }
 {
     let after = utf8::byte(text, at + 1);
     TypeTold {
         ok: ends_spec(after),
+        hex: Hex::Absent,
         word: false,
         blank: false,
+        from: at,
         end: at + 1,
+    }
+}
+
+// The same, or an `x` or `X` with the `?` after it; the sign is given.
+fn debug_type(text: &[u8], b: u8, at: usize) -> TypeTold
+    requires { ⌜ Room (now text) (at + 1) × (b ≡ getD (now text) at 0) × (signByte b ≡ true) ⌝ }
+    ensures { λ r. ⌜ TypeKnown (now (text .entry)) at r ⌝ }
+{
+    if b == b'?' {
+        return sign_type(text, at);
+    }
+    if utf8::byte(text, at + 1) != b'?' {
+        return sign_type(text, at);
+    }
+    TypeTold {
+        ok: true,
+        hex: if b == b'x' { Hex::Lower } else { Hex::Upper },
+        word: false,
+        blank: false,
+        from: at + 1,
+        end: at + 2,
+    }
+}
+
+// Where no type stands.
+pub fn no_type(at: usize) -> TypeTold
+    ensures { λ r. ⌜ r ≡ typeNone at ⌝ }
+{
+    TypeTold {
+        ok: true,
+        hex: Hex::Absent,
+        word: false,
+        blank: false,
+        from: at,
+        end: at,
     }
 }
 
@@ -403,12 +482,14 @@ pub fn is_type_sign(b: u8) -> bool
 // A type that is the word from `at` to `end`, whose first byte is given; none where they are the same.
 pub fn word_type(b: u8, at: usize, end: usize) -> TypeTold
     requires { ⌜ at ≤ 65535 ⌝ }
-    ensures { λ r. ⌜ r ≡ record { ok = true; word = ltb at end; blank = blankWord b at end; end = end } ⌝ }
+    ensures { λ r. ⌜ r ≡ typeWord b at end ⌝ }
 {
     TypeTold {
         ok: true,
+        hex: Hex::Absent,
         word: at < end,
         blank: is_blank(b, at, end),
+        from: at,
         end,
     }
 }
@@ -430,7 +511,7 @@ pub fn type_at(text: &[u8], at: usize, from: usize, word: usize) -> TypeTold
 {
     let b = utf8::byte(text, at);
     if is_type_sign(b) {
-        return sign_type(text, at);
+        return debug_type(text, b, at);
     }
     let end = if at == from { word } else { word_end(text, at) };
     word_type(b, at, end)
@@ -476,12 +557,7 @@ pub fn no_spec(at: usize) -> SpecTold
         word: at,
         width: nothing(at),
         precision: nothing(at),
-        typed: TypeTold {
-            ok: true,
-            word: false,
-            blank: false,
-            end: at,
-        },
+        typed: no_type(at),
         given: 0,
     }
 }

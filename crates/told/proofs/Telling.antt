@@ -1,5 +1,5 @@
 -- The numbers of what is told, part by part: each part's four numbers are the layout's. Rests on Told, quick's Tellings and words' Layout.
-use Prim.Native.Nat.{ℕ, _+_, _≤_, _<_}
+use Prim.Native.Nat.{ℕ, _+_, _-_, _≤_, _<_}
 use mathlib.Core.Path.{_≡_, refl, sym, ap, _∙_}
 use mathlib.Core.Bool.{Bool, true, false, true≢false}
 use mathlib.Core.List.{List, _++_, append-assoc}
@@ -12,6 +12,7 @@ use Rattle.utf8.specs.ChoiceLaws.{pick-elim}
 use Rattle.frame.specs.Places.{place, rangeOf}
 use Rattle.frame.specs.Spans.{spanBetween}
 use Rattle.frame.specs.declared.Frame.{Frame}
+use Rattle.frame.specs.declared.Span.{Span}
 use Rattle.scan.specs.declared.Count.{Count}
 use Rattle.scan.specs.declared.Numeral.{Numeral}
 use Rattle.placeholder.specs.Arguments.{resolved}
@@ -24,7 +25,7 @@ use Rattle.reading.specs.Steps.{stateOf}
 use Rattle.reading.specs.Wants.{larger, placeWants, countWants, argumentWants}
 use Rattle.laws.specs.WantLaws.{larger-left, larger-right, larger-least, larger-none, larger-assoc}
 use Rattle.reading.specs.declared.State.{State}
-use Rattle.quick.specs.Tellings.{foundOf, countOf, widthOf, countSpan, fillOf, typeSpan, afterStar, specOf, argumentOf, nextOf, Tells}
+use Rattle.quick.specs.Tellings.{foundOf, countOf, widthOf, precisionOf, countSpan, fillOf, typeSpan, afterStar, specOf, argumentOf, nextOf, Tells}
 use Rattle.quick.specs.PartsTold.{part}
 use Rattle.quick.specs.declared.TypeTold.{TypeTold}
 use Rattle.quick.specs.declared.PartTold.{PartTold}
@@ -32,10 +33,10 @@ use Rattle.quick.specs.declared.SpecTold.{SpecTold}
 use Rattle.quick.specs.declared.PlaceholderTold.{PlaceholderTold}
 use Rattle.words.specs.Laid.{laid}
 use Rattle.words.specs.LaidLaws.{laid-on, fillWords-length, placeWords-length, countWords-length, specWords-length, zeros-length, spanWords-length, argumentWords-length}
-use Rattle.words.specs.Layout.{lowOf, four, none, bitOf, alignOf, signOf, placeTag, placeWords, fillWords, spanWords, countData, nameSpanEnd, countWords, headWords, specWords, argumentWords, zeros}
+use Rattle.words.specs.Layout.{lowOf, four, none, bitOf, alignOf, signOf, hexOf, placeTag, placeWords, fillWords, spanWords, countData, nameSpanEnd, countWords, headWords, specWords, argumentWords, zeros}
 use Rattle.writing.proofs.Overlays.{laid-before}
 use Rattle.words.proofs.Laying.{laying-first, laying-on, laying-last}
-use Rattle.told.specs.Told.{Sound, Spoilt, Put, placeOf, toldHead, nameWords, widthWants, withCounts, toldState}
+use Rattle.told.specs.Told.{Sound, Spoilt, Put, placeOf, toldHead, nameWords, typeWords, widthWants, precisionWants, withCounts, toldState}
 use Rattle.told.proofs.Spoiling.{spoilt-laid, put-laid, spoilt-wide, spoilt-then}
 
 -- NUMBERS OF ARGUMENTS: a star takes one at most
@@ -263,14 +264,32 @@ module _ (n : ℕ) (p : PartTold) where
   pub width-fixed : p .tag ≤ 1 → 0 ≡ widthWants n p
   width-fixed h = count-fixed n p h ∙ width-other (λ e. omega (arith, h, e))
 
-width-wants : (t : List ℕ) (f : Frame) (n from word : ℕ) (p : PartTold) → countWants (widthOf t f n from word p) ≡ widthWants n p
+  -- and a precision
+  pub precise-dot : p .tag ≡ 5 → 0 ≡ precisionWants n p
+  unfolding precisionWants pick
+  precise-dot e = rw (eq-eqb (p .tag) 5 e)
+
+  pub precise-other : (p .tag ≡ 5 → ⊥) → widthWants n p ≡ precisionWants n p
+  unfolding precisionWants pick
+  precise-other e = rw (ne-eqb (p .tag) 5 e)
+
+width-wants : (t : List ℕ) (f : Frame) (n from : ℕ) (p : PartTold) → countWants (widthOf t f n from p) ≡ widthWants n p
 unfolding widthOf widthWants pick
-width-wants t f n from word p = go (eqb (p .tag) 4)
+width-wants t f n from p = go (eqb (p .tag) 4)
   where
     go : (b : Bool) →
-        countWants (pick b (Count.ByName (rangeOf (place from) (place word)) (spanBetween t f (place from) (place word))) (countOf n p)) ≡ pick b 0 (countWants (countOf n p))
+        countWants (pick b (Count.ByName (rangeOf (place from) (place (p .end - 1))) (spanBetween t f (place from) (place (p .end - 1)))) (countOf n p)) ≡
+        pick b 0 (countWants (countOf n p))
     go true = refl
     go false = refl
+
+precision-wants : (t : List ℕ) (f : Frame) (n dot : ℕ) (p : PartTold) → countWants (precisionOf t f n dot p) ≡ precisionWants n p
+unfolding precisionOf precisionWants pick
+precision-wants t f n dot p = go (eqb (p .tag) 5)
+  where
+    go : (b : Bool) → countWants (pick b Count.Implied (widthOf t f n (dot + 1) p)) ≡ pick b 0 (widthWants n p)
+    go true = refl
+    go false = width-wants t f n (dot + 1) p
 
 -- the larger of three in another order
 turned : (a p s : ℕ) → larger a (larger p s) ≡ larger (larger a s) p
@@ -301,15 +320,16 @@ told-wants t f brace n a x = go (x .colon)
     wide = widthWants n (x .spec .width)
 
     precise : ℕ
-    precise = countWants (countOf n (x .spec .precision))
+    precise = precisionWants n (x .spec .precision)
 
     go : (b : Bool) →
         let s : Spec = pick b (specOf t f (x .to + 1) n (x .spec)) (noSpec (place (x .to)) n .spec) in
         larger a (larger (own (brace + 1)) (larger (countWants (s .width)) (countWants (s .precision)))) ≡
         larger (pick b (larger (larger a wide) precise) a) (own 0)
     go true =
-        ap (λ (p : ℕ). larger a (larger p (larger (countWants (widthOf t f n (x .spec .from) (x .spec .word) (x .spec .width))) precise))) (same-place (brace + 1) 0 k (x .place))
-        ∙ ap (λ (w : ℕ). larger a (larger (own 0) (larger w precise))) (width-wants t f n (x .spec .from) (x .spec .word) (x .spec .width))
+        ap (λ (p : ℕ). larger a (larger p (larger (countWants (widthOf t f n (x .spec .from) (x .spec .width))) (countWants (precisionOf t f n (x .spec .width .end) (x .spec .precision)))))) (same-place (brace + 1) 0 k (x .place))
+        ∙ ap (λ (w : ℕ). larger a (larger (own 0) (larger w (countWants (precisionOf t f n (x .spec .width .end) (x .spec .precision)))))) (width-wants t f n (x .spec .from) (x .spec .width))
+        ∙ ap (λ (w : ℕ). larger a (larger (own 0) (larger wide w))) (precision-wants t f n (x .spec .width .end) (x .spec .precision))
         ∙ turned a (own 0) (larger wide precise)
         ∙ ap (λ (c : ℕ). larger c (own 0)) (sym (larger-assoc a wide precise))
     go false =
@@ -317,70 +337,106 @@ told-wants t f brace n a x = go (x .colon)
         ∙ ap (λ (c : ℕ). larger a (larger (own 0) c)) (larger-none 0)
         ∙ ap (larger a) (larger-none (own 0))
 
--- A WIDTH: a name, or any other count
-module _ (t : List ℕ) (f : Frame) (from word n : ℕ) (p : PartTold) where
-  width-name : p .tag ≡ 4 → nameWords t f from word (p .end) ≡ countWords (widthOf t f n from word p) (countSpan t f from p)
-  unfolding nameWords widthOf pick
-  width-name e = rw (eq-eqb (p .tag) 4 e, span-some t f from n p (λ z. omega arith))
+-- A WIDTH: a name, or any other count; its span may start before it
+module _ (t : List ℕ) (f : Frame) (start from n : ℕ) (p : PartTold) where
+  abbrev wide : List ℕ
+  wide = countWords (widthOf t f n from p) (countSpan t f start p)
 
-  width-count : (p .tag ≡ 4 → ⊥) → countOf n p ≡ widthOf t f n from word p
+  name-words : p .tag ≡ 4 → nameWords t f start from (p .end) ≡ wide
+  unfolding nameWords widthOf pick
+  name-words e = rw (eq-eqb (p .tag) 4 e, span-some t f start n p (λ z. omega arith))
+
+  pub put-name : p .tag ≡ 4 → (l : List ℕ) (k : ℕ) → k + 8 ≤ length l → {l₁ : List ℕ} → l₁ ≡ laid l k (nameWords t f start from (p .end)) →
+      Put (p .tag ≤ 4) k 8 wide l l₁
+  put-name e l k h w =
+      let c = countWords-length (widthOf t f n from p) (countSpan t f start p) in
+      put-laid l k wide (omega (arith, c, h)) (w ∙ ap (laid l k) (name-words e)) c
+
+  width-count : (p .tag ≡ 4 → ⊥) → countOf n p ≡ widthOf t f n from p
   unfolding widthOf pick
   width-count e = rw (ne-eqb (p .tag) 4 e)
 
-  pub put-name : p .tag ≡ 4 → (l : List ℕ) (k : ℕ) → k + 8 ≤ length l → {l₁ : List ℕ} → l₁ ≡ laid l k (nameWords t f from word (p .end)) →
-      Put (p .tag ≤ 4) k 8 (countWords (widthOf t f n from word p) (countSpan t f from p)) l l₁
-  put-name e l k h w =
-      let ws = countWords (widthOf t f n from word p) (countSpan t f from p) in
-      let c = countWords-length (widthOf t f n from word p) (countSpan t f from p) in
-      put-laid l k ws (omega (arith, c, h)) (w ∙ ap (laid l k) (width-name e)) c
-
-  pub put-count : (p .tag ≡ 4 → ⊥) → {l l₁ : List ℕ} {k : ℕ} → Put (p .tag ≤ 3) k 8 (countWords (countOf n p) (countSpan t f from p)) l l₁ →
-      Put (p .tag ≤ 4) k 8 (countWords (widthOf t f n from word p) (countSpan t f from p)) l l₁
+  pub put-count : (p .tag ≡ 4 → ⊥) → {l l₁ : List ℕ} {k : ℕ} → Put (p .tag ≤ 3) k 8 (countWords (countOf n p) (countSpan t f start p)) l l₁ → Put (p .tag ≤ 4) k 8 wide l l₁
   put-count e w = record { wrote = λ h. rw (width-count e) at (w .wrote (omega (arith, h, e))); spoilt = w .spoilt }
 
--- a name's bytes and their span, then the width's span
-pub name-laid : (t : List ℕ) (f : Frame) (from word end : ℕ) (l : List ℕ) (k : ℕ) → k + 8 ≤ length l → {l₁ l₂ : List ℕ} →
-    l₁ ≡ laid l k (four 4 (lowOf from) (lowOf word) (lowOf (spanBetween t f (place from) (place word) .start .0))) →
-    l₂ ≡ laid l₁ (k + 4) (four (lowOf (spanBetween t f (place from) (place word) .end .0)) 1 (lowOf (spanBetween t f (place from) (place end) .start .0)) (lowOf (spanBetween t f (place from) (place end) .end .0))) →
-    l₂ ≡ laid l k (nameWords t f from word end)
+-- A PRECISION: what a width may be, or a dot alone
+module _ (t : List ℕ) (f : Frame) (dot n : ℕ) (p : PartTold) where
+  abbrev precise : List ℕ
+  precise = countWords (precisionOf t f n dot p) (countSpan t f dot p)
+
+  precision-width : (p .tag ≡ 5 → ⊥) → widthOf t f n (dot + 1) p ≡ precisionOf t f n dot p
+  unfolding precisionOf pick
+  precision-width e = rw (ne-eqb (p .tag) 5 e)
+
+  pub put-width : (p .tag ≡ 5 → ⊥) → {l l₁ : List ℕ} {k : ℕ} → Put (p .tag ≤ 4) k 8 (countWords (widthOf t f n (dot + 1) p) (countSpan t f dot p)) l l₁ →
+      Put (p .tag ≤ 5) k 8 precise l l₁
+  put-width e w = record { wrote = λ h. rw (precision-width e) at (w .wrote (omega (arith, h, e))); spoilt = w .spoilt }
+
+  precision-dot : p .tag ≡ 5 → precisionOf t f n dot p ≡ Count.Implied
+  unfolding precisionOf pick
+  precision-dot e = rw (eq-eqb (p .tag) 5 e)
+
+  pub put-dot : p .tag ≡ 5 → (l : List ℕ) (k : ℕ) → k + 8 ≤ length l → {l₁ l₂ : List ℕ} → l₁ ≡ laid l k none →
+      l₂ ≡ laid l₁ (k + 4) (four 0 1 (lowOf (spanBetween t f (place dot) (place (p .end)) .start .0)) (lowOf (spanBetween t f (place dot) (place (p .end)) .end .0))) →
+      Put (p .tag ≤ 5) k 8 precise l l₂
+  put-dot e l k h w₁ w₂ =
+      let s = spanBetween t f (place dot) (place (p .end)) in
+      let c = countWords-length (precisionOf t f n dot p) (countSpan t f dot p) in
+      put-laid l k precise (omega (arith, c, h))
+      (rw (precision-dot e, span-some t f dot n p (λ z. omega arith)) (two-laid l k none (four 0 1 (lowOf (s .start .0)) (lowOf (s .end .0))) (k + 4) (omega arith) (omega arith) w₁ w₂)) c
+
+-- a name's bytes and their span, then the count's span
+pub name-laid : (t : List ℕ) (f : Frame) (start from end : ℕ) (l : List ℕ) (k : ℕ) → k + 8 ≤ length l → {l₁ l₂ : List ℕ} →
+    l₁ ≡ laid l k (four 4 (lowOf from) (lowOf (end - 1)) (lowOf (spanBetween t f (place from) (place (end - 1)) .start .0))) →
+    l₂ ≡ laid l₁ (k + 4) (four (lowOf (spanBetween t f (place from) (place (end - 1)) .end .0)) 1 (lowOf (spanBetween t f (place start) (place end) .start .0)) (lowOf (spanBetween t f (place start) (place end) .end .0))) →
+    l₂ ≡ laid l k (nameWords t f start from end)
 unfolding nameWords
-name-laid t f from word end l k h w₁ w₂ =
-    let s = spanBetween t f (place from) (place word) in
-    let o = spanBetween t f (place from) (place end) in
-    two-laid l k (four 4 (lowOf from) (lowOf word) (lowOf (s .start .0))) (four (lowOf (s .end .0)) 1 (lowOf (o .start .0)) (lowOf (o .end .0))) (k + 4) (omega arith) (omega arith) w₁ w₂
+name-laid t f start from end l k h w₁ w₂ =
+    let s = spanBetween t f (place from) (place (end - 1)) in
+    let o = spanBetween t f (place start) (place end) in
+    two-laid l k (four 4 (lowOf from) (lowOf (end - 1)) (lowOf (s .start .0))) (four (lowOf (s .end .0)) 1 (lowOf (o .start .0)) (lowOf (o .end .0))) (k + 4) (omega arith) (omega arith) w₁ w₂
 
 -- A TYPE: its bytes, and a word's span
-module _ (t : List ℕ) (f : Frame) (start : ℕ) (x : TypeTold) where
-  pub type-word : x .word ≡ true → (l : List ℕ) (k : ℕ) → k + 8 ≤ length l → {l₁ l₂ : List ℕ} → l₁ ≡ laid l k (four (lowOf start) (lowOf (x .end)) 0 0) →
-      l₂ ≡ laid l₁ (k + 4) (four 0 1 (lowOf (spanBetween t f (place start) (place (x .end)) .start .0)) (lowOf (spanBetween t f (place start) (place (x .end)) .end .0))) →
-      l₂ ≡ laid l k (four (lowOf start) (lowOf (x .end)) 0 0 ++ spanWords 0 (typeSpan t f start x))
-  unfolding typeSpan pick
-  type-word e l k h w₁ w₂ = rw e (two-laid l k (four (lowOf start) (lowOf (x .end)) 0 0) (four 0 1 (lowOf (spanBetween t f (place start) (place (x .end)) .start .0)) (lowOf (spanBetween t f (place start) (place (x .end)) .end .0))) (k + 4) (omega arith) (omega arith) w₁ w₂)
+module _ (t : List ℕ) (f : Frame) (x : TypeTold) (l : List ℕ) (k : ℕ) (h : k + 8 ≤ length l) where
+  abbrev bytes : List ℕ
+  bytes = four (lowOf (x .from)) (lowOf (x .end)) (hexOf (x .hex)) 0
 
-  pub type-sign : x .word ≡ false → (l : List ℕ) (k : ℕ) → k + 8 ≤ length l → {l₁ l₂ : List ℕ} → l₁ ≡ laid l k (four (lowOf start) (lowOf (x .end)) 0 0) →
-      l₂ ≡ laid l₁ (k + 4) none → l₂ ≡ laid l k (four (lowOf start) (lowOf (x .end)) 0 0 ++ spanWords 0 (typeSpan t f start x))
-  unfolding typeSpan pick
-  type-sign e l k h w₁ w₂ = rw e (two-laid l k (four (lowOf start) (lowOf (x .end)) 0 0) none (k + 4) (omega arith) (omega arith) w₁ w₂)
+  abbrev span : Span
+  span = spanBetween t f (place (x .from)) (place (x .end))
+
+  pub type-word : x .word ≡ true → {l₁ l₂ : List ℕ} → l₁ ≡ laid l k bytes → l₂ ≡ laid l₁ (k + 4) (four 0 1 (lowOf (span .start .0)) (lowOf (span .end .0))) →
+      l₂ ≡ laid l k (typeWords t f x)
+  unfolding typeWords typeSpan pick
+  type-word e w₁ w₂ = rw e (two-laid l k bytes (four 0 1 (lowOf (span .start .0)) (lowOf (span .end .0))) (k + 4) (omega arith) (omega arith) w₁ w₂)
+
+  pub type-sign : x .word ≡ false → {l₁ l₂ : List ℕ} → l₁ ≡ laid l k bytes → l₂ ≡ laid l₁ (k + 4) none → l₂ ≡ laid l k (typeWords t f x)
+  unfolding typeWords typeSpan pick
+  type-sign e w₁ w₂ = rw e (two-laid l k bytes none (k + 4) (omega arith) (omega arith) w₁ w₂)
 
 -- THE SPEC: its fill and its marks
 pub marks-spoilt : (t : List ℕ) (f : Frame) (at past : ℕ) (ms : List ℕ) → length ms ≡ 4 → (l : List ℕ) (k : ℕ) → k + 8 ≤ length l → {l₁ l₂ : List ℕ} →
     l₁ ≡ laid l k (fillWords (fillOf t f at past)) → l₂ ≡ laid l₁ (k + 4) ms → Spoilt k 8 l l₂
 marks-spoilt t f at past ms c l k room w₁ w₂ = spoilt-two l k (fillWords (fillOf t f at past)) ms (fillWords-length (fillOf t f at past)) c room w₁ w₂
 
+typeWords-length : (t : List ℕ) (f : Frame) (x : TypeTold) → length (typeWords t f x) ≡ 8
+unfolding typeWords
+typeWords-length t f x =
+    omega (arith, length-append (four (lowOf (x .from)) (lowOf (x .end)) (hexOf (x .hex)) 0) (spanWords 0 (typeSpan t f x)), spanWords-length 0 (typeSpan t f x))
+
 -- its parts are laid one after another
 module _ (t : List ℕ) (f : Frame) (at n : ℕ) (x : SpecTold) (l : List ℕ) (k : ℕ) (room : k + 32 ≤ length l) where
   spec-laid : {l₁ l₂ l₃ l₄ l₅ : List ℕ} → l₁ ≡ laid l k (fillWords (fillOf t f at (x .fill))) →
       l₂ ≡ laid l₁ (k + 4) (four (alignOf (x .align)) (signOf (x .sign)) (bitOf (x .alternate)) (bitOf (x .zero))) →
-      l₃ ≡ laid l₂ (k + 8) (countWords (widthOf t f n (x .from) (x .word) (x .width)) (countSpan t f (x .from) (x .width))) →
-      l₄ ≡ laid l₃ (k + 16) (countWords (countOf n (x .precision)) (countSpan t f (x .width .end) (x .precision))) →
-      l₅ ≡ laid l₄ (k + 24) (four (lowOf (x .precision .end)) (lowOf (x .typed .end)) 0 0 ++ spanWords 0 (typeSpan t f (x .precision .end) (x .typed))) →
+      l₃ ≡ laid l₂ (k + 8) (countWords (widthOf t f n (x .from) (x .width)) (countSpan t f (x .from) (x .width))) →
+      l₄ ≡ laid l₃ (k + 16) (countWords (precisionOf t f n (x .width .end) (x .precision)) (countSpan t f (x .width .end) (x .precision))) →
+      l₅ ≡ laid l₄ (k + 24) (typeWords t f (x .typed)) →
       l₅ ≡ laid l k (specWords (specOf t f at n x))
-  unfolding specOf specWords
+  unfolding specOf specWords typeWords
   spec-laid w₁ w₂ w₃ w₄ w₅ =
       let fill = fillOf t f at (x .fill) in
-      let width = widthOf t f n (x .from) (x .word) (x .width) in
+      let width = widthOf t f n (x .from) (x .width) in
       let widthspan = countSpan t f (x .from) (x .width) in
-      let precision = countOf n (x .precision) in
+      let precision = precisionOf t f n (x .width .end) (x .precision) in
       let precisionspan = countSpan t f (x .width .end) (x .precision) in
       let a = laying-first l k (specWords (specOf t f at n x)) (omega (arith, specWords-length (specOf t f at n x))) in
       let b = laying-on (fillWords fill) (k + 4) a w₁ (omega (arith, fillWords-length fill)) in
@@ -390,15 +446,15 @@ module _ (t : List ℕ) (f : Frame) (at n : ℕ) (x : SpecTold) (l : List ℕ) (
       laying-last e w₅
 
   -- told or not, no more than its numbers are written
-  pub spec-put : {told : Type 0} → (told → (x .width .tag ≤ 4) × (x .precision .tag ≤ 3)) → {l₁ l₂ l₃ l₄ l₅ : List ℕ} → l₁ ≡ laid l k (fillWords (fillOf t f at (x .fill))) →
+  pub spec-put : {told : Type 0} → (told → (x .width .tag ≤ 4) × (x .precision .tag ≤ 5)) → {l₁ l₂ l₃ l₄ l₅ : List ℕ} → l₁ ≡ laid l k (fillWords (fillOf t f at (x .fill))) →
       l₂ ≡ laid l₁ (k + 4) (four (alignOf (x .align)) (signOf (x .sign)) (bitOf (x .alternate)) (bitOf (x .zero))) →
-      Put (x .width .tag ≤ 4) (k + 8) 8 (countWords (widthOf t f n (x .from) (x .word) (x .width)) (countSpan t f (x .from) (x .width))) l₂ l₃ →
-      Put (x .precision .tag ≤ 3) (k + 16) 8 (countWords (countOf n (x .precision)) (countSpan t f (x .width .end) (x .precision))) l₃ l₄ →
-      l₅ ≡ laid l₄ (k + 24) (four (lowOf (x .precision .end)) (lowOf (x .typed .end)) 0 0 ++ spanWords 0 (typeSpan t f (x .precision .end) (x .typed))) →
+      Put (x .width .tag ≤ 4) (k + 8) 8 (countWords (widthOf t f n (x .from) (x .width)) (countSpan t f (x .from) (x .width))) l₂ l₃ →
+      Put (x .precision .tag ≤ 5) (k + 16) 8 (countWords (precisionOf t f n (x .width .end) (x .precision)) (countSpan t f (x .width .end) (x .precision))) l₃ l₄ →
+      l₅ ≡ laid l₄ (k + 24) (typeWords t f (x .typed)) →
       length l₂ ≡ length l → length l₃ ≡ length l → length l₄ ≡ length l → Put told k 32 (specWords (specOf t f at n x)) l l₅
   spec-put known {l₁} {l₂} {l₃} {l₄} {l₅} w₁ w₂ w₃ w₄ w₅ e₂ e₃ e₄ =
-      let last = four (lowOf (x .precision .end)) (lowOf (x .typed .end)) 0 0 ++ spanWords 0 (typeSpan t f (x .precision .end) (x .typed)) in
-      let c : length last ≡ 8 = omega (arith, length-append (four (lowOf (x .precision .end)) (lowOf (x .typed .end)) 0 0) (spanWords 0 (typeSpan t f (x .precision .end) (x .typed))), spanWords-length 0 (typeSpan t f (x .precision .end) (x .typed))) in
+      let last = typeWords t f (x .typed) in
+      let c = typeWords-length t f (x .typed) in
       let a = marks-spoilt t f at (x .fill) (four (alignOf (x .align)) (signOf (x .sign)) (bitOf (x .alternate)) (bitOf (x .zero))) refl l k (omega (arith, room)) w₁ w₂ in
       let b : Spoilt k 32 l l₃ = spoilt-then a (omega arith) (omega arith) (w₃ .spoilt) (omega arith) (omega arith) e₂ in
       let d : Spoilt k 32 l l₄ = spoilt-then b (omega arith) (omega arith) (w₄ .spoilt) (omega arith) (omega arith) e₃ in

@@ -1,5 +1,5 @@
 -- What is told of a placeholder, as it is written, and where reading then stands. Rests on words' Layout, quick's Tellings and reading's Wants.
-use Prim.Native.Nat.{ℕ, _+_, _≤_}
+use Prim.Native.Nat.{ℕ, _+_, _-_, _≤_}
 use mathlib.Core.Path.{_≡_}
 use mathlib.Core.Bool.{true, false}
 use mathlib.Core.List.{List, _++_}
@@ -16,17 +16,18 @@ use Rattle.placeholder.specs.declared.Place.{Place}
 use Rattle.reading.specs.Steps.{stateOf}
 use Rattle.reading.specs.Wants.{larger, placeWants, countWants}
 use Rattle.reading.specs.declared.State.{State}
-use Rattle.quick.specs.Tellings.{foundOf, countOf, afterStar, nextOf}
+use Rattle.quick.specs.Tellings.{foundOf, countOf, typeSpan, afterStar, nextOf}
 use Rattle.quick.specs.declared.PartTold.{PartTold}
+use Rattle.quick.specs.declared.TypeTold.{TypeTold}
 use Rattle.quick.specs.declared.PlaceholderTold.{PlaceholderTold}
 use Rattle.words.specs.Laid.{laid}
-use Rattle.words.specs.Layout.{headWords, placeTag, placeWords, countWords}
+use Rattle.words.specs.Layout.{lowOf, four, hexOf, headWords, placeTag, placeWords, countWords, spanWords}
 
 -- WHAT IS TOLD: its tags are the layout's, and it stands within the text
 pub record Sound (t : List ℕ) (x : PlaceholderTold) : Type 0 where
   pub placed : x .place .tag ≤ 2
   pub wide : x .spec .width .tag ≤ 4
-  pub precise : x .spec .precision .tag ≤ 3
+  pub precise : x .spec .precision .tag ≤ 5
   pub reached : x .to ≤ length t
 
 -- the place that starts at a byte; one that is not written takes the argument's number
@@ -39,20 +40,28 @@ toldHead t f brace x n =
     headWords 1 (rangeOf (place brace) (place (x .on))) (placeTag (placeOf (brace + 1) (x .place) n)) ++
     placeWords (placeOf (brace + 1) (x .place) n) (spanBetween t f (place (brace + 1)) (place (x .to)))
 
--- a width that is a name, its `$` included
+-- a count that is a name with its `$`, and starts at a byte of its own
 unfoldable pub nameWords : List ℕ → Frame → ℕ → ℕ → ℕ → List ℕ
-nameWords t f from word end =
+nameWords t f start from end =
     countWords
-    (Count.ByName (rangeOf (place from) (place word)) (spanBetween t f (place from) (place word)))
-    (MaybeSpan.Present (spanBetween t f (place from) (place end)))
+    (Count.ByName (rangeOf (place from) (place (end - 1))) (spanBetween t f (place from) (place (end - 1))))
+    (MaybeSpan.Present (spanBetween t f (place start) (place end)))
+
+-- a type
+unfoldable pub typeWords : List ℕ → Frame → TypeTold → List ℕ
+typeWords t f k = four (lowOf (k .from)) (lowOf (k .end)) (hexOf (k .hex)) 0 ++ spanWords 0 (typeSpan t f k)
 
 -- how many arguments a width wants, by its tag: one that is a name wants none
 unfoldable pub widthWants : ℕ → PartTold → ℕ
 widthWants n p = pick (eqb (p .tag) 4) 0 (countWants (countOf n p))
 
+-- and a precision: a dot alone wants none either
+unfoldable pub precisionWants : ℕ → PartTold → ℕ
+precisionWants n p = pick (eqb (p .tag) 5) 0 (widthWants n p)
+
 -- the larger of a figure and what its counts want
 unfoldable pub withCounts : ℕ → ℕ → PlaceholderTold → ℕ
-withCounts n figure x = pick (x .colon) (larger (larger figure (widthWants n (x .spec .width))) (countWants (countOf n (x .spec .precision)))) figure
+withCounts n figure x = pick (x .colon) (larger (larger figure (widthWants n (x .spec .width))) (precisionWants n (x .spec .precision))) figure
 
 -- where reading stands after it
 unfoldable pub toldState : State → PlaceholderTold → State

@@ -7,12 +7,13 @@ use quick::PlaceholderTold;
 use quick::TypeTold;
 use reading::State;
 use steps::wants::larger_of;
+use words::hex_word;
 use words::low;
 use words::put_zeros;
 use words::put4;
 ghost use mathlib.Core.Path.{_≡_};
 ghost use mathlib.Core.List.{_++_};
-ghost use Prim.Native.Nat.{_+_, _*_, _≤_, _<_};
+ghost use Prim.Native.Nat.{_+_, _-_, _*_, _≤_, _<_};
 ghost use lib.Dec.{eqb};
 ghost use lib.ListN.{length};
 ghost use Rattle.utf8.specs.Choice.{pick};
@@ -21,10 +22,10 @@ ghost use Rattle.frame.specs.Places.{place as placeAt};
 ghost use Rattle.frame.specs.Bounds.{Small};
 ghost use Rattle.placeholder.specs.Specs.{noSpec};
 ghost use Rattle.reading.specs.Wants.{larger, countWants};
-ghost use Rattle.quick.specs.Tellings.{codeSeen, fillOf, countOf, widthOf, countSpan, typeSpan, afterStar};
+ghost use Rattle.quick.specs.Tellings.{codeSeen, fillOf, countOf, widthOf, precisionOf, countSpan, afterStar};
 ghost use Rattle.words.specs.Laid.{laid};
-ghost use Rattle.words.specs.Layout.{lowOf, four, placeWords, fillWords, spanWords, countWords, specWords};
-ghost use Rattle.told.specs.Told.{Put, Sound, placeOf, toldHead, nameWords, widthWants, withCounts, toldState};
+ghost use Rattle.words.specs.Layout.{lowOf, placeWords, fillWords, countWords, specWords};
+ghost use Rattle.told.specs.Told.{Put, Sound, placeOf, toldHead, nameWords, typeWords, widthWants, precisionWants, withCounts, toldState};
 
 // The place of what is told, which starts at `at`.
 fn put_told_place(out: &mut [u32], k: usize, place: PartTold, at: usize, next: usize, span: Span)
@@ -124,21 +125,29 @@ fn count_value(part: PartTold, next: usize) -> u32
     part.value as u32
 }
 
-// A width that is a name, from its first byte to where it ends; its `$` ends at `end`.
+// One less; 0 of 0.
+fn one_less(at: usize) -> usize
+    ensures { λ r. ⌜ r ≡ at - 1 ⌝ }
+{
+    if at == 0 { 0 } else { at - 1 }
+}
+
+// A count that is a name from `from` on, whose `$` ends at `end`; the count's own span starts at `start`.
 fn put_told_name(
     out: &mut [u32],
     k: usize,
     text: &[u8],
     frame: Frame,
+    start: usize,
     from: usize,
-    word: usize,
     end: usize,
 )
     requires { ⌜ Small (now text) frame × (k + 8 ≤ length (now out)) ⌝ }
-    ensures { λ _. ⌜ now (out .exit) ≡ laid (now (out .entry)) k (nameWords (now (text .entry)) frame from word end) ⌝ }
+    ensures { λ _. ⌜ now (out .exit) ≡ laid (now (out .entry)) k (nameWords (now (text .entry)) frame start from end) ⌝ }
 {
+    let word = one_less(end);
     let name = frame::span_between(text, frame, TextPlace(from), TextPlace(word));
-    let span = frame::span_between(text, frame, TextPlace(from), TextPlace(end));
+    let span = frame::span_between(text, frame, TextPlace(start), TextPlace(end));
     put4(&mut *out, k, 4, low(from), low(word), low(name.start.0));
     put4(
         out,
@@ -157,18 +166,43 @@ pub fn put_told_width(
     text: &[u8],
     frame: Frame,
     from: usize,
-    word: usize,
     part: PartTold,
     next: usize,
 )
     requires { ⌜ Small (now text) frame × (k + 8 ≤ length (now out)) ⌝ }
-    ensures { λ _. ⌜ Put (part .tag ≤ 4) k 8 (countWords (widthOf (now (text .entry)) frame next from word part) (countSpan (now (text .entry)) frame from part)) (now (out .entry)) (now (out .exit)) ⌝ }
+    ensures { λ _. ⌜ Put (part .tag ≤ 4) k 8 (countWords (widthOf (now (text .entry)) frame next from part) (countSpan (now (text .entry)) frame from part)) (now (out .entry)) (now (out .exit)) ⌝ }
 {
     if part.tag == 4 {
-        put_told_name(out, k, text, frame, from, word, part.end);
+        put_told_name(out, k, text, frame, from, from, part.end);
         return;
     }
     put_told_count(out, k, text, frame, from, part, next);
+}
+
+// The precision of a spec, whose dot stands at `dot`: one that is a dot alone has a span and no number.
+pub fn put_told_precision(
+    out: &mut [u32],
+    k: usize,
+    text: &[u8],
+    frame: Frame,
+    dot: usize,
+    part: PartTold,
+    next: usize,
+)
+    requires { ⌜ Small (now text) frame × (dot ≤ 65535) × (k + 8 ≤ length (now out)) ⌝ }
+    ensures { λ _. ⌜ Put (part .tag ≤ 5) k 8 (countWords (precisionOf (now (text .entry)) frame next dot part) (countSpan (now (text .entry)) frame dot part)) (now (out .entry)) (now (out .exit)) ⌝ }
+{
+    if part.tag == 4 {
+        put_told_name(out, k, text, frame, dot, dot + 1, part.end);
+        return;
+    }
+    if part.tag != 5 {
+        put_told_count(out, k, text, frame, dot, part, next);
+        return;
+    }
+    let span = frame::span_between(text, frame, TextPlace(dot), TextPlace(part.end));
+    put4(&mut *out, k, 0, 0, 0, 0);
+    put4(out, k + 4, 0, 1, low(span.start.0), low(span.end.0));
 }
 
 // A count that starts at `from`.
@@ -194,21 +228,22 @@ pub fn put_told_count(
     put4(out, k + 4, 0, 1, low(span.start.0), low(span.end.0));
 }
 
-// A type that starts at `start`.
-pub fn put_told_type(
-    out: &mut [u32],
-    k: usize,
-    text: &[u8],
-    frame: Frame,
-    start: usize,
-    typed: TypeTold,
-)
+// A type. A word's span is that of its text.
+pub fn put_told_type(out: &mut [u32], k: usize, text: &[u8], frame: Frame, typed: TypeTold)
     requires { ⌜ Small (now text) frame × (k + 8 ≤ length (now out)) ⌝ }
-    ensures { λ _. ⌜ now (out .exit) ≡ laid (now (out .entry)) k (four (lowOf start) (lowOf (typed .end)) 0 0 ++ spanWords 0 (typeSpan (now (text .entry)) frame start typed)) ⌝ }
+    ensures { λ _. ⌜ now (out .exit) ≡ laid (now (out .entry)) k (typeWords (now (text .entry)) frame typed) ⌝ }
 {
-    put4(&mut *out, k, low(start), low(typed.end), 0, 0);
+    let hex = typed.hex;
+    put4(
+        &mut *out,
+        k,
+        low(typed.from),
+        low(typed.end),
+        hex_word(hex),
+        0,
+    );
     if typed.word {
-        let span = frame::span_between(text, frame, TextPlace(start), TextPlace(typed.end));
+        let span = frame::span_between(text, frame, TextPlace(typed.from), TextPlace(typed.end));
         put4(out, k + 4, 0, 1, low(span.start.0), low(span.end.0));
         return;
     }
@@ -234,18 +269,7 @@ fn count_wants(part: PartTold, next: usize) -> usize
     next + 1
 }
 
-// The larger of a figure and what a count wants: most want none.
-fn with_count(part: PartTold, next: usize, figure: usize) -> usize
-    requires { ⌜ next < 0xFFFFF ⌝ }
-    ensures { λ r. ⌜ r ≡ larger figure (countWants (countOf next part)) ⌝ }
-{
-    if part.tag <= 1 {
-        return figure;
-    }
-    larger_of(figure, count_wants(part, next))
-}
-
-// The same of a width: one that is a name wants none.
+// The larger of a figure and what a width wants: most want none, nor does one that is a name.
 fn with_width(part: PartTold, next: usize, figure: usize) -> usize
     requires { ⌜ next < 0xFFFFF ⌝ }
     ensures { λ r. ⌜ r ≡ larger figure (widthWants next part) ⌝ }
@@ -259,6 +283,17 @@ fn with_width(part: PartTold, next: usize, figure: usize) -> usize
     larger_of(figure, count_wants(part, next))
 }
 
+// The same of a precision: a dot alone wants none.
+fn with_precision(part: PartTold, next: usize, figure: usize) -> usize
+    requires { ⌜ next < 0xFFFFF ⌝ }
+    ensures { λ r. ⌜ r ≡ larger figure (precisionWants next part) ⌝ }
+{
+    if part.tag == 5 {
+        return figure;
+    }
+    with_width(part, next, figure)
+}
+
 // The same of what is told behind a colon.
 fn with_counts(told: PlaceholderTold, next: usize, figure: usize) -> usize
     requires { ⌜ next < 0xFFFFF ⌝ }
@@ -269,7 +304,7 @@ fn with_counts(told: PlaceholderTold, next: usize, figure: usize) -> usize
     }
     let spec = told.spec;
     let wide = with_width(spec.width, next, figure);
-    with_count(spec.precision, next, wide)
+    with_precision(spec.precision, next, wide)
 }
 
 // Where reading stands after what is told: a star takes an argument's number, and then a place that is not written.

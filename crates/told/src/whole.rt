@@ -1,9 +1,9 @@
 // A placeholder that is told, written whatever is wrong in it: a word `_` is noted, and a closing brace that is missing.
 use crate::parts::after_star;
 use crate::parts::put_bare;
-use crate::parts::put_told_count;
 use crate::parts::put_told_fill;
 use crate::parts::put_told_head;
+use crate::parts::put_told_precision;
 use crate::parts::put_told_type;
 use crate::parts::put_told_width;
 use frame::Frame;
@@ -57,11 +57,11 @@ fn write_spec(
     let from = flag.at.0;
     let word = quick::word_at(text, from);
     let width = quick::width(text, from, word.end);
-    put_told_width(&mut *out, k + 8, text, frame, from, word.end, width, next);
-    let precision = quick::precision(text, width.end);
-    put_told_count(&mut *out, k + 16, text, frame, width.end, precision, next);
+    put_told_width(&mut *out, k + 8, text, frame, from, width, next);
+    let precision = quick::any_precision(text, width.end);
+    put_told_precision(&mut *out, k + 16, text, frame, width.end, precision, next);
     let typed = quick::type_at(text, precision.end, from, word.end);
-    put_told_type(out, k + 24, text, frame, precision.end, typed);
+    put_told_type(out, k + 24, text, frame, typed);
     SpecTold {
         ok: quick::all_told(text, flag.ate, from, width, precision, typed),
         fill,

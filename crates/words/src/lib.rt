@@ -66,7 +66,7 @@ pub fn sign_word(sign: Sign) -> u32
     }
 }
 
-fn hex_word(hex: Hex) -> u32
+pub fn hex_word(hex: Hex) -> u32
     ensures { λ r. ⌜ r ≡ hexOf hex ⌝ }
 {
     match hex {

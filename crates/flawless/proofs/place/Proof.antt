@@ -4,7 +4,7 @@ use mathlib.Core.Path.{refl, sym, _∙_, ap}
 use mathlib.Core.Logic.{⊎-elim}
 use Rattle.scan.specs.Words.{isDigit}
 use Rattle.quick.proofs.Parts.{place-unknown, place-number, place-nothing, place-word}
-use Rattle.flawless.proofs.Closing.{no-blank}
+use Rattle.flawless.proofs.Closing.{no-blank, no-raw}
 use Rattle.flawless.proofs.place.Statement.{statement}
 use Rattle.flawless.proofs.place.Tie as tie
 
@@ -41,12 +41,15 @@ returns-2 c =
 add-if3 : tie.Need-add-if3
 add-if3 c = search needs
 
+is-raw-requires : tie.Need-is-raw-requires
+is-raw-requires c κs = search needs
+
 untold-requires : tie.Need-untold-requires
 untold-requires c κs = search needs
 
 returns-3 : tie.Need-returns-3
 returns-3 c =
-    let d = c .before .before .before .before .before .before in
+    let d = c .before .before .before .before .before .before .before in
     rw (c .untold .ensures) (place-unknown (d .before .before .before .pre .within), refl)
 
 untold-requires-2 : tie.Need-untold-requires-2
@@ -54,7 +57,7 @@ untold-requires-2 c κs = search needs
 
 returns-4 : tie.Need-returns-4
 returns-4 c =
-    let d = c .before .before .before .before .before .before .before in
+    let d = c .before .before .before .before .before .before .before .before in
     rw (c .untold2 .ensures) (place-unknown (d .before .before .before .pre .within), refl)
 
 plain-requires : tie.Need-plain-requires
@@ -65,10 +68,11 @@ returns-5 c =
     let w = c .before .before .before in
     let d = w .before .before in
     let e = d .before .byte .ensures in
+    let raw = ⊎-elim (λ x. sym (x .1 .ensures) ∙ x .2 .left) (λ x. no-raw _ _ _ _ (x .left)) (c .before .if3 .came) in
     rw (c .plain .ensures) (
-      rw (no-blank _ _ _ (⊎-elim (λ x b _. x .2 .left (e ∙ b)) (λ x _ q. x .left q) (c .before .if3 .came))) at
+      rw (no-blank _ _ _ (⊎-elim (λ x b _. x .3 .left (e ∙ b)) (λ x _ q. x .left q) (c .before .if3 .came))) at
           (place-word (ap isDigit (sym e) ∙ sym (d .is-digit .ensures) ∙ w .before .if1 .left) (w .word-end .ensures) (c .before .before .if2 .left)
-          (⊎-elim (λ x _ b. x .1 .left (e ∙ b)) (λ x q _. x .left q) (c .before .if3 .came)) (d .before .before .before .pre .within)),
+          (rw e at raw) (d .before .before .before .pre .within)),
       refl,
     )
 
@@ -84,6 +88,7 @@ place-spec =
     nothing-requires
     returns-2
     add-if3
+    is-raw-requires
     untold-requires
     returns-3
     untold-requires-2

@@ -12,8 +12,11 @@ use Rattle.flawless.proofs.type_at.Tie as tie
 byte-requires : tie.Need-byte-requires
 byte-requires c κs = search needs
 
+no-type-requires : tie.Need-no-type-requires
+no-type-requires c κs = search needs
+
 returns : tie.Need-returns
-returns c = type-none (sym (c .before .byte .ensures) ∙ c .if1 .taken) (c .before .before .before .pre .0 .within)
+returns c = rw (c .no-type .ensures) (type-none (sym (c .before .before .byte .ensures) ∙ c .before .if1 .taken) (c .before .before .before .before .pre .0 .within))
 
 is-type-sign-requires : tie.Need-is-type-sign-requires
 is-type-sign-requires c κs = search needs
@@ -51,6 +54,7 @@ type-at-spec =
     tie.close
     (tie.spec
     byte-requires
+    no-type-requires
     returns
     is-type-sign-requires
     sign-type-requires

@@ -5,7 +5,7 @@ use native.Mathlib.Omega.{arith}
 use denote.Ref.{now}
 use Rattle.quick.proofs.Specs.{marks, marks-room, spec-known}
 use Rattle.told.proofs.Spoiling.{spoilt-wide, spoilt-then}
-use Rattle.told.proofs.Telling.{marks-spoilt, put-count, spec-put}
+use Rattle.told.proofs.Telling.{marks-spoilt, put-count, put-width, spec-put}
 use Rattle.flawless.proofs.Closing.{spec-none, spec-ended, put-left, told-parts}
 use Rattle.flawless.proofs.write_spec.Statement.{statement}
 use Rattle.flawless.proofs.write_spec.Tie as tie
@@ -137,7 +137,7 @@ returns-3 c =
           (λ _. (omega (arith, wide), omega (arith, precise)))
           (c .before .before .before .before .before .before .before .before .before .before .before .before .before .before .before .before .before .before .before .before .before .before .before .before .before .before .before .before .before .before .before .before .before .before .before .before .put-told-fill .ensures)
           (rw (c .before .before .before .before .before .before .before .before .before .before .before .before .before .before .before .before .before .before .before .before .before .before .before .before .before .before .before .before .align-word .ensures, c .before .before .before .before .before .before .before .before .before .before .before .before .before .before .before .before .before .before .before .before .before .before .before .before .before .before .before .sign-word .ensures, c .before .before .before .before .before .before .before .before .before .before .before .before .before .before .before .before .before .before .before .before .before .before .before .before .before .before .bit .ensures, c .before .before .before .before .before .before .before .before .before .before .before .before .before .before .before .before .before .before .before .before .before .before .before .before .before .bit2 .ensures) at (c .before .before .before .before .before .before .before .before .before .before .before .before .before .before .before .before .before .before .before .before .before .before .before .before .put4 .ensures))
-          (put-count (now (a .text)) (a .frame) _ _ (a .next) _ (λ e. omega (arith, wide, e)) (c .before .before .before .before .before .before .before .before .before .before .before .before .before .before .before .before .put-told-count .ensures)) (c .before .before .before .before .before .before .before .before .before .put-told-count2 .ensures) (c .before .before .before .before .put-told-type .ensures)
+          (put-count (now (a .text)) (a .frame) _ _ (a .next) _ (λ e. omega (arith, wide, e)) (c .before .before .before .before .before .before .before .before .before .before .before .before .before .before .before .before .put-told-count .ensures)) (put-width (now (a .text)) (a .frame) _ (a .next) _ (λ e. omega (arith, precise, e)) (put-count (now (a .text)) (a .frame) _ _ (a .next) _ (λ e. omega (arith, precise, e)) (c .before .before .before .before .before .before .before .before .before .put-told-count2 .ensures))) (c .before .before .before .before .put-told-type .ensures)
           (c .before .before .before .before .before .before .before .before .before .before .before .before .before .before .before .before .before .before .before .before .before .before .before .out2 .given ∙ c .before .before .before .before .before .before .before .before .before .before .before .before .before .before .before .before .before .before .before .before .before .before .before .before .before .before .before .before .before .before .before .before .before .before .before .out .given)
           (c .before .before .before .before .before .before .before .before .before .before .before .before .before .before .before .out3 .given ∙ c .before .before .before .before .before .before .before .before .before .before .before .before .before .before .before .before .before .before .before .before .before .before .before .out2 .given ∙ c .before .before .before .before .before .before .before .before .before .before .before .before .before .before .before .before .before .before .before .before .before .before .before .before .before .before .before .before .before .before .before .before .before .before .before .out .given)
           (c .before .before .before .before .before .before .before .before .out4 .given ∙ c .before .before .before .before .before .before .before .before .before .before .before .before .before .before .before .out3 .given ∙ c .before .before .before .before .before .before .before .before .before .before .before .before .before .before .before .before .before .before .before .before .before .before .before .out2 .given ∙ c .before .before .before .before .before .before .before .before .before .before .before .before .before .before .before .before .before .before .before .before .before .before .before .before .before .before .before .before .before .before .before .before .before .before .before .out .given),

@@ -1,7 +1,6 @@
--- `quick::place` meets its contract: a number, a word that is not `r`, or nothing.
+-- `quick::place` meets its contract: a number, a word that is no raw name, or nothing.
 use borrow.Author.Needs.{needs}
 use mathlib.Core.Path.{sym, _∙_, ap}
-use mathlib.Core.Logic.{⊎-elim}
 use Rattle.scan.specs.Words.{isDigit}
 use Rattle.quick.proofs.Parts.{place-unknown, place-number, place-nothing, place-word}
 use Rattle.quick.proofs.place.Statement.{statement}
@@ -35,8 +34,8 @@ returns-2 c =
     (place-nothing (ap isDigit (sym (d .before .byte .ensures)) ∙ sym (d .is-digit .ensures) ∙ w .before .if1 .left)
     (sym (w .word-end .ensures) ∙ c .before .if2 .taken) (d .before .before .before .pre .within))
 
-add-if3 : tie.Need-add-if3
-add-if3 c = search needs
+is-raw-requires : tie.Need-is-raw-requires
+is-raw-requires c κs = search needs
 
 untold-requires : tie.Need-untold-requires
 untold-requires c κs = search needs
@@ -51,12 +50,13 @@ is-blank-requires c κs = search needs
 
 returns-4 : tie.Need-returns-4
 returns-4 c =
-    let w = c .before .before .before in
+    let w = c .before .before .before .before in
     let d = w .before .before in
     let e = d .before .byte .ensures in
+    let r = c .before .before .is-raw .ensures in
     rw (c .is-blank .ensures, e)
-    (place-word (ap isDigit (sym e) ∙ sym (d .is-digit .ensures) ∙ w .before .if1 .left) (w .word-end .ensures) (c .before .before .if2 .left)
-    (⊎-elim (λ x _ b. x .1 .left (e ∙ b)) (λ x q _. x .left q) (c .before .if3 .came)) (d .before .before .before .pre .within))
+    (place-word (ap isDigit (sym e) ∙ sym (d .is-digit .ensures) ∙ w .before .if1 .left) (w .word-end .ensures) (c .before .before .before .if2 .left)
+    (rw e at (sym r ∙ c .before .if3 .left)) (d .before .before .before .pre .within))
 
 pub place-spec : {M : Type 1} → statement M
 place-spec =
@@ -69,7 +69,7 @@ place-spec =
     word-end-requires
     nothing-requires
     returns-2
-    add-if3
+    is-raw-requires
     untold-requires
     returns-3
     is-blank-requires

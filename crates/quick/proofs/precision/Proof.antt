@@ -4,7 +4,7 @@ use mathlib.Core.Path.{sym, _∙_, ap}
 use native.Mathlib.Omega.{arith}
 use Rattle.scan.specs.Words.{isDigit}
 use Rattle.quick.proofs.Bytes.{room-past}
-use Rattle.quick.proofs.Parts.{precision-unknown, precision-none, precision-star, precision-count}
+use Rattle.quick.proofs.Parts.{width-count, precision-unknown, precision-none, precision-star, precision-width}
 use Rattle.quick.proofs.precision.Statement.{statement}
 use Rattle.quick.proofs.precision.Tie as tie
 
@@ -54,8 +54,9 @@ count-requires c κs =
 returns-3 : tie.Need-returns-3
 returns-3 c =
     let i = c .before .before .before .before .before in
-    precision-count (sym (i .before .byte .ensures) ∙ i .if1 .left) (λ q. c .before .before .before .if2 .left (c .before .before .before .before .byte2 .ensures ∙ q))
-    (c .count .ensures)
+    let g = c .count .ensures in
+    precision-width (sym (i .before .byte .ensures) ∙ i .if1 .left) (λ q. c .before .before .before .if2 .left (c .before .before .before .before .byte2 .ensures ∙ q))
+    (width-count {word = 0} g) (g .whole) (λ k e. omega (arith, g .some k))
 
 untold-requires : tie.Need-untold-requires
 untold-requires c κs = search needs

@@ -4,7 +4,7 @@ use mathlib.Core.Path.{sym, _∙_, ap}
 use mathlib.Core.Logic.{⊎-elim}
 use Rattle.quick.specs.PartsTold.{signByte}
 use Rattle.quick.proofs.Bytes.{room-past}
-use Rattle.quick.proofs.Parts.{sign-some, type-sign, type-named}
+use Rattle.quick.proofs.Parts.{sign-some, type-named}
 use Rattle.quick.proofs.type_at.Statement.{statement}
 use Rattle.quick.proofs.type_at.Tie as tie
 
@@ -14,15 +14,14 @@ byte-requires c κs = search needs
 is-type-sign-requires : tie.Need-is-type-sign-requires
 is-type-sign-requires c κs = search needs
 
-sign-type-requires : tie.Need-sign-type-requires
-sign-type-requires c κs =
+debug-type-requires : tie.Need-debug-type-requires
+debug-type-requires c κs =
     let b = c .before .before in
-    room-past (b .before .before .pre .0) (sym (b .byte .ensures)) (sign-some _ (sym (c .before .is-type-sign .ensures) ∙ c .if1 .taken))
+    let y = sym (c .before .is-type-sign .ensures) ∙ c .if1 .taken in
+    (room-past (b .before .before .pre .0) (sym (b .byte .ensures)) (sign-some _ y), b .byte .ensures, y)
 
 returns : tie.Need-returns
-returns c =
-    let b = c .before .before .before in
-    rw (c .sign-type .ensures) (type-sign (ap signByte (sym (b .byte .ensures)) ∙ sym (c .before .before .is-type-sign .ensures) ∙ c .before .if1 .taken))
+returns c = c .debug-type .ensures
 
 word-end-requires : tie.Need-word-end-requires
 word-end-requires c κs = search needs
@@ -48,7 +47,7 @@ type-at-spec =
     (tie.spec
     byte-requires
     is-type-sign-requires
-    sign-type-requires
+    debug-type-requires
     returns
     word-end-requires
     word-type-requires

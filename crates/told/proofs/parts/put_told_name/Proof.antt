@@ -5,6 +5,9 @@ use Rattle.told.proofs.Telling.{name-laid}
 use Rattle.told.proofs.parts.put_told_name.Statement.{statement}
 use Rattle.told.proofs.parts.put_told_name.Tie as tie
 
+one-less-requires : tie.Need-one-less-requires
+one-less-requires c κs = search needs
+
 span-between-requires : tie.Need-span-between-requires
 span-between-requires c κs = search needs
 
@@ -43,17 +46,19 @@ same-length c = search needs
 
 returns : tie.Need-returns
 returns c =
-    let s = c .before .before .before .before .before .before .before .before .before .before .before .before .before .before .before .before .before .before in
+    let s = c .before .before .before .before .before .before .before .before .before .before .before .before .before .before .before .before .before .before .before in
     let a = s .args in
-    let name = c .before .before .before .before .before .before .before .before .before .before .before .before .before .before .before .span-between .ensures in
-    name-laid (now (a .text)) (a .frame) (a .from) (a .word) (a .end) (now (a .out)) (a .k) (s .pre .1)
-    (rw (c .before .before .before .before .before .before .before .before .before .before .before .before .low .ensures, c .before .before .before .before .before .before .before .before .before .before .before .low2 .ensures, c .before .before .before .before .before .before .before .before .before .before .low3 .ensures, name) at (c .before .before .before .before .before .before .before .before .before .put4 .ensures))
+    let less = c .before .before .before .before .before .before .before .before .before .before .before .before .before .before .before .before .one-less .ensures in
+    let name = rw less at (c .before .before .before .before .before .before .before .before .before .before .before .before .before .before .before .span-between .ensures) in
+    name-laid (now (a .text)) (a .frame) (a .start) (a .from) (a .end) (now (a .out)) (a .k) (s .pre .1)
+    (rw (c .before .before .before .before .before .before .before .before .before .before .before .before .low .ensures, c .before .before .before .before .before .before .before .before .before .before .before .low2 .ensures, c .before .before .before .before .before .before .before .before .before .before .low3 .ensures, name, less) at (c .before .before .before .before .before .before .before .before .before .put4 .ensures))
     (rw (c .before .before .before .before .before .low4 .ensures, c .before .before .before .before .low5 .ensures, c .before .before .before .low6 .ensures, name, c .before .before .before .before .before .before .before .before .before .before .before .before .before .before .span-between2 .ensures) at (c .before .before .put42 .ensures))
 
 pub put-told-name-spec : {M : Type 1} → statement M
 put-told-name-spec =
     tie.close
     (tie.spec
+    one-less-requires
     span-between-requires
     span-between-requires-2
     low-requires

@@ -11,6 +11,9 @@ low-requires c κs = search needs
 low-requires-2 : tie.Need-low-requires-2
 low-requires-2 c κs = search needs
 
+hex-word-requires : tie.Need-hex-word-requires
+hex-word-requires c κs = search needs
+
 put4-requires : tie.Need-put4-requires
 put4-requires c κs = search needs
 
@@ -34,10 +37,10 @@ same-length c = search needs
 
 returns : tie.Need-returns
 returns c =
-    let s = c .before .before .before .before .before .before .before .before .before .before .before .before .before .before .before .before in
+    let s = c .before .before .before .before .before .before .before .before .before .before .before .before .before .before .before .before .before in
     let a = s .args in
-    type-word (now (a .text)) (a .frame) (a .start) (a .typed) (c .before .before .before .before .before .before .before .if1 .taken) (now (a .out)) (a .k) (s .pre .1)
-    (rw (c .before .before .before .before .before .before .before .before .before .before .before .before .low .ensures, c .before .before .before .before .before .before .before .before .before .before .before .low2 .ensures) at (c .before .before .before .before .before .before .before .before .before .before .put4 .ensures))
+    type-word (now (a .text)) (a .frame) (a .typed) (now (a .out)) (a .k) (s .pre .1) (c .before .before .before .before .before .before .before .if1 .taken)
+    (rw (c .before .before .before .before .before .before .before .before .before .before .before .before .before .low .ensures, c .before .before .before .before .before .before .before .before .before .before .before .before .low2 .ensures, c .before .before .before .before .before .before .before .before .before .before .before .hex-word .ensures) at (c .before .before .before .before .before .before .before .before .before .before .put4 .ensures))
     (rw (c .before .before .before .before .low3 .ensures, c .before .before .before .low4 .ensures, c .before .before .before .before .before .before .span-between .ensures) at (c .before .before .put42 .ensures))
 
 add-put4-2 : tie.Need-add-put4-2
@@ -51,10 +54,10 @@ same-length-2 c = search needs
 
 returns-2 : tie.Need-returns-2
 returns-2 c =
-    let s = c .before .before .before .before .before .before .before .before .before .before .before .before .before in
+    let s = c .before .before .before .before .before .before .before .before .before .before .before .before .before .before in
     let a = s .args in
-    type-sign (now (a .text)) (a .frame) (a .start) (a .typed) (c .before .before .before .before .if1 .left) (now (a .out)) (a .k) (s .pre .1)
-    (rw (c .before .before .before .before .before .before .before .before .before .low .ensures, c .before .before .before .before .before .before .before .before .low2 .ensures) at (c .before .before .before .before .before .before .before .put4 .ensures))
+    type-sign (now (a .text)) (a .frame) (a .typed) (now (a .out)) (a .k) (s .pre .1) (c .before .before .before .before .if1 .left)
+    (rw (c .before .before .before .before .before .before .before .before .before .before .low .ensures, c .before .before .before .before .before .before .before .before .before .low2 .ensures, c .before .before .before .before .before .before .before .before .hex-word .ensures) at (c .before .before .before .before .before .before .before .put4 .ensures))
     (c .before .before .put43 .ensures)
 
 pub put-told-type-spec : {M : Type 1} → statement M
@@ -63,6 +66,7 @@ put-told-type-spec =
     (tie.spec
     low-requires
     low-requires-2
+    hex-word-requires
     put4-requires
     span-between-requires
     add-put4

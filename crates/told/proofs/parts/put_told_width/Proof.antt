@@ -15,7 +15,7 @@ returns : tie.Need-returns
 returns c =
     let s = c .before .before .before .before .before .before .before .before in
     let a = s .args in
-    put-name (now (a .text)) (a .frame) (a .from) (a .word) (a .next) (a .part) (c .before .before .before .before .if1 .taken) (now (a .out)) (a .k) (s .pre .1) (c .before .before .put-told-name .ensures)
+    put-name (now (a .text)) (a .frame) (a .from) (a .from) (a .next) (a .part) (c .before .before .before .before .if1 .taken) (now (a .out)) (a .k) (s .pre .1) (c .before .before .put-told-name .ensures)
 
 put-told-count-requires : tie.Need-put-told-count-requires
 put-told-count-requires c κs = search needs
@@ -26,7 +26,7 @@ same-length-2 c = search needs
 returns-2 : tie.Need-returns-2
 returns-2 c =
     let a = c .before .before .before .before .before .before .before .before .args in
-    put-count (now (a .text)) (a .frame) (a .from) (a .word) (a .next) (a .part) (c .before .before .before .before .if1 .left) (c .before .before .put-told-count .ensures)
+    put-count (now (a .text)) (a .frame) (a .from) (a .from) (a .next) (a .part) (c .before .before .before .before .if1 .left) (c .before .before .put-told-count .ensures)
 
 pub put-told-width-spec : {M : Type 1} → statement M
 put-told-width-spec =

@@ -1,4 +1,4 @@
--- `told::parts::with_width` meets its contract: nor does a width that is a name.
+-- `told::parts::with_width` meets its contract: a width that is absent or fixed wants none, nor does one that is a name.
 use borrow.Author.Needs.{needs}
 use mathlib.Core.Path.{sym, ap, _∙_}
 use Rattle.reading.specs.Wants.{larger}

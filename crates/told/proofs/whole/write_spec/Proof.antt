@@ -60,17 +60,17 @@ add-put-told-width c = let s = c .before .before .before .before .before .before
 put-told-width-requires : tie.Need-put-told-width-requires
 put-told-width-requires c κs = (c .before .before .before .before .before .before .before .before .before .before .before .before .before .before .before .before .before .before .before .before .before .before .pre .0, omega (arith, c .before .before .before .before .before .before .before .before .before .before .before .before .before .before .before .before .before .before .before .before .before .before .pre .2, c .before .before .before .before .before .before .before .before .before .before .before .before .before .before .before .before .out .given, c .before .before .before .before .out2 .given))
 
-precision-requires : tie.Need-precision-requires
-precision-requires c κs = record { within = c .before .before .before .before .width .ensures .inside; small = c .before .before .before .before .before .before .before .before .before .before .before .before .before .before .before .before .before .before .before .before .before .before .before .before .before .pre .1 .small }
+any-precision-requires : tie.Need-any-precision-requires
+any-precision-requires c κs = record { within = c .before .before .before .before .width .ensures .inside; small = c .before .before .before .before .before .before .before .before .before .before .before .before .before .before .before .before .before .before .before .before .before .before .before .before .before .pre .1 .small }
 
-add-put-told-count : tie.Need-add-put-told-count
-add-put-told-count c = let s = c .before .before .before .before .before .before .before .before .before .before .before .before .before .before .before .before .before .before .before .before .before .before .before .before .before .before .before in omega (arith, s .pre .2, s .good)
+add-put-told-precision : tie.Need-add-put-told-precision
+add-put-told-precision c = let s = c .before .before .before .before .before .before .before .before .before .before .before .before .before .before .before .before .before .before .before .before .before .before .before .before .before .before .before in omega (arith, s .pre .2, s .good)
 
-put-told-count-requires : tie.Need-put-told-count-requires
-put-told-count-requires c κs = (c .before .before .before .before .before .before .before .before .before .before .before .before .before .before .before .before .before .before .before .before .before .before .before .before .before .before .before .pre .0, omega (arith, c .before .before .before .before .before .before .before .before .before .before .before .before .before .before .before .before .before .before .before .before .before .before .before .before .before .before .before .pre .2, c .before .before .before .before .before .before .before .before .before .before .before .before .before .before .before .before .before .before .before .before .before .out .given, c .before .before .before .before .before .before .before .before .before .out2 .given, c .before .before .before .out3 .given))
+put-told-precision-requires : tie.Need-put-told-precision-requires
+put-told-precision-requires c κs = (c .before .before .before .before .before .before .before .before .before .before .before .before .before .before .before .before .before .before .before .before .before .before .before .before .before .before .before .pre .0, omega (arith, c .before .before .before .before .before .before .width .ensures .inside, c .before .before .before .before .before .before .before .before .before .before .before .before .before .before .before .before .before .before .before .before .before .before .before .before .before .before .before .pre .1 .small), omega (arith, c .before .before .before .before .before .before .before .before .before .before .before .before .before .before .before .before .before .before .before .before .before .before .before .before .before .before .before .pre .2, c .before .before .before .before .before .before .before .before .before .before .before .before .before .before .before .before .before .before .before .before .before .out .given, c .before .before .before .before .before .before .before .before .before .out2 .given, c .before .before .before .out3 .given))
 
 type-at-requires : tie.Need-type-at-requires
-type-at-requires c κs = (record { within = c .before .before .before .before .precision .ensures .inside; small = c .before .before .before .before .before .before .before .before .before .before .before .before .before .before .before .before .before .before .before .before .before .before .before .before .before .before .before .before .before .before .pre .1 .small }, c .before .before .before .before .before .before .before .before .before .before .word-at .ensures .ends)
+type-at-requires c κs = (record { within = c .before .before .before .before .any-precision .ensures .inside; small = c .before .before .before .before .before .before .before .before .before .before .before .before .before .before .before .before .before .before .before .before .before .before .before .before .before .before .before .before .before .before .pre .1 .small }, c .before .before .before .before .before .before .before .before .before .before .word-at .ensures .ends)
 
 add-put-told-type : tie.Need-add-put-told-type
 add-put-told-type c = let s = c .before .before .before .before .before .before .before .before .before .before .before .before .before .before .before .before .before .before .before .before .before .before .before .before .before .before .before .before .before .before .before .before in omega (arith, s .pre .2, s .good)
@@ -93,12 +93,12 @@ returns c =
     let a = s .args in
     let m = marks (c .before .before .before .before .before .before .before .before .before .before .before .before .before .before .before .before .before .before .before .before .before .before .before .before .before .before .before .before .before .read-align .ensures) (c .before .before .before .before .before .before .before .before .before .before .before .before .before .before .before .before .before .before .before .before .before .before .before .before .before .before .before .before .read-sign .ensures) (c .before .before .before .before .before .before .before .before .before .before .before .before .before .before .before .before .before .before .before .before .before .before .before .before .before .before .before .consume .ensures) (c .before .before .before .before .before .before .before .before .before .before .before .before .before .before .before .before .before .before .before .before .before .before .before .before .before .before .consume2 .ensures) in
     let told = c .before .all-told .ensures in (
-      spec-known m (c .before .before .before .before .before .before .before .before .before .before .before .before .before .before .before .before .before .before .before .before .before .before .before .before .before .before .before .before .before .before .before .before .before .before .fill-end .ensures) (c .before .before .before .before .before .before .before .before .before .before .before .before .before .before .before .before .width .ensures) (c .given-back .ensures) (c .before .before .before .before .before .before .before .before .before .before .before .precision .ensures) (c .before .before .before .before .before .before .type-at .ensures) told,
+      spec-known m (c .before .before .before .before .before .before .before .before .before .before .before .before .before .before .before .before .before .before .before .before .before .before .before .before .before .before .before .before .before .before .before .before .before .before .fill-end .ensures) (c .before .before .before .before .before .before .before .before .before .before .before .before .before .before .before .before .width .ensures) (c .given-back .ensures) (c .before .before .before .before .before .before .before .before .before .before .before .any-precision .ensures) (c .before .before .before .before .before .before .type-at .ensures) told,
       spec-put (now (a .text)) (a .frame) (a .at) (a .next) _ (now (a .out)) (a .k) (s .pre .2)
-          (λ y. (c .before .before .before .before .before .before .before .before .before .before .before .before .before .before .before .before .width .ensures .most (told y .wide), c .before .before .before .before .before .before .before .before .before .before .before .precision .ensures .most (told y .precise)))
+          (λ y. (c .before .before .before .before .before .before .before .before .before .before .before .before .before .before .before .before .width .ensures .most (told y .wide), c .before .before .before .before .before .before .before .before .before .before .before .any-precision .ensures .most (told y .precise)))
           (c .before .before .before .before .before .before .before .before .before .before .before .before .before .before .before .before .before .before .before .before .before .before .before .before .before .before .before .before .before .before .before .before .put-told-fill .ensures)
           (rw (c .before .before .before .before .before .before .before .before .before .before .before .before .before .before .before .before .before .before .before .before .before .before .before .before .align-word .ensures, c .before .before .before .before .before .before .before .before .before .before .before .before .before .before .before .before .before .before .before .before .before .before .before .sign-word .ensures, c .before .before .before .before .before .before .before .before .before .before .before .before .before .before .before .before .before .before .before .before .before .before .bit .ensures, c .before .before .before .before .before .before .before .before .before .before .before .before .before .before .before .before .before .before .before .before .before .bit2 .ensures) at (c .before .before .before .before .before .before .before .before .before .before .before .before .before .before .before .before .before .before .before .before .put4 .ensures))
-          (c .before .before .before .before .before .before .before .before .before .before .before .before .before .before .put-told-width .ensures) (c .before .before .before .before .before .before .before .before .before .put-told-count .ensures) (c .before .before .before .before .put-told-type .ensures)
+          (c .before .before .before .before .before .before .before .before .before .before .before .before .before .before .put-told-width .ensures) (c .before .before .before .before .before .before .before .before .before .put-told-precision .ensures) (c .before .before .before .before .put-told-type .ensures)
           (c .before .before .before .before .before .before .before .before .before .before .before .before .before .before .before .before .before .before .before .out2 .given ∙ c .before .before .before .before .before .before .before .before .before .before .before .before .before .before .before .before .before .before .before .before .before .before .before .before .before .before .before .before .before .before .before .out .given)
           (c .before .before .before .before .before .before .before .before .before .before .before .before .before .out3 .given ∙ c .before .before .before .before .before .before .before .before .before .before .before .before .before .before .before .before .before .before .before .out2 .given ∙ c .before .before .before .before .before .before .before .before .before .before .before .before .before .before .before .before .before .before .before .before .before .before .before .before .before .before .before .before .before .before .before .out .given)
           (c .before .before .before .before .before .before .before .before .out4 .given ∙ c .before .before .before .before .before .before .before .before .before .before .before .before .before .out3 .given ∙ c .before .before .before .before .before .before .before .before .before .before .before .before .before .before .before .before .before .before .before .out2 .given ∙ c .before .before .before .before .before .before .before .before .before .before .before .before .before .before .before .before .before .before .before .before .before .before .before .before .before .before .before .before .before .before .before .out .given),
@@ -124,9 +124,9 @@ write-spec-spec =
     width-requires
     add-put-told-width
     put-told-width-requires
-    precision-requires
-    add-put-told-count
-    put-told-count-requires
+    any-precision-requires
+    add-put-told-precision
+    put-told-precision-requires
     type-at-requires
     add-put-told-type
     put-told-type-requires
