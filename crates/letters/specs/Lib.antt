@@ -2,10 +2,11 @@
 pub mod Table
 pub mod Compared
 pub mod TableLaws
+pub mod PartLaws
 pub mod Space
 pub mod Start
 pub mod Continue
-pub mod Common
+pub mod Frequent
 pub mod Ascii
 pub mod Questions
 pub mod Asked

@@ -15,7 +15,7 @@ use Rattle.letters.specs.TableLaws.{loAt, hiAt, pairs, found, first-hold
 use Rattle.letters.specs.Space.{space}
 use Rattle.letters.specs.Start.{start}
 use Rattle.letters.specs.Continue.{continue}
-use Rattle.letters.specs.Common.{common}
+use Rattle.letters.specs.Frequent.{frequent}
 use Rattle.letters.specs.Questions.{isSpace, isStart, isContinue}
 
 -- the tables are ascending and disjoint
@@ -31,10 +31,6 @@ pub continue-ascending : T (ascending 0 continue)
 unfolding ascending continue
 continue-ascending = tt
 
-pub common-ascending : T (ascending 0 common)
-unfolding ascending common
-common-ascending = tt
-
 -- the tables compared
 start-in-continue : T (inside start continue)
 unfolding inside held pick start continue
@@ -44,36 +40,44 @@ continue-off-space : T (apart continue space)
 unfolding apart clear pick space continue
 continue-off-space = tt
 
-common-in-start : T (inside common start)
-unfolding inside held pick common start
-common-in-start = tt
+frequent-in-start : T (inside frequent start)
+unfolding inside held pick frequent start
+frequent-in-start = tt
 
 -- every start is a continuation
 pub start-continues : (c : ℕ) → isStart c ≡ true → isContinue c ≡ true
 unfolding isStart isContinue
 start-continues c m = inside-holds start continue start-in-continue c m
 
--- every character of the common scripts' ranges is a start
-pub common-starts : (c : ℕ) → member common c ≡ true → isStart c ≡ true
+-- every character of the frequent ranges is a start
+frequent-starts : (c : ℕ) → member frequent c ≡ true → isStart c ≡ true
 unfolding isStart
-common-starts c m = inside-holds common start common-in-start c m
+frequent-starts c m = inside-holds frequent start frequent-in-start c m
 
--- so is one of its ranges of Latin letters and Han characters
+-- each of these ranges by its bounds: Latin letters, Greek and Cyrillic letters, Han characters
 pub latin-starts : (c : ℕ) → 0xC0 ≤ c → c < 0xF8 → (c ≡ 0xD7 → ⊥) → (c ≡ 0xF7 → ⊥) → isStart c ≡ true
-unfolding common pairs loAt hiAt
+unfolding frequent pairs loAt hiAt
 latin-starts c l u m n = go (ltb c 0xD7) refl
   where
     go : (x : Bool) → ltb c 0xD7 ≡ x → isStart c ≡ true
-    go true e = common-starts c (found common c 0 (omega arith) l (omega (arith, ltb-true c 0xD7 e)))
-    go false e = common-starts c (found common c 1 (omega arith) (omega (arith, ltb-false c 0xD7 e, m)) (omega (arith, n)))
+    go true e = frequent-starts c (found frequent c 0 (omega arith) l (omega (arith, ltb-true c 0xD7 e)))
+    go false e = frequent-starts c (found frequent c 1 (omega arith) (omega (arith, ltb-false c 0xD7 e, m)) (omega (arith, n)))
 
 pub further-starts : (c : ℕ) → 0xF8 ≤ c → c ≤ 0x2C1 → isStart c ≡ true
-unfolding common pairs loAt hiAt
-further-starts c l u = common-starts c (found common c 2 (omega arith) l u)
+unfolding frequent pairs loAt hiAt
+further-starts c l u = frequent-starts c (found frequent c 2 (omega arith) l u)
+
+pub greek-starts : (c : ℕ) → 0x3A3 ≤ c → c ≤ 0x481 → (c ≡ 0x3F6 → ⊥) → isStart c ≡ true
+unfolding frequent pairs loAt hiAt
+greek-starts c l u m = go (ltb c 0x3F6) refl
+  where
+    go : (x : Bool) → ltb c 0x3F6 ≡ x → isStart c ≡ true
+    go true e = frequent-starts c (found frequent c 3 (omega arith) l (omega (arith, ltb-true c 0x3F6 e)))
+    go false e = frequent-starts c (found frequent c 4 (omega arith) (omega (arith, ltb-false c 0x3F6 e, m)) u)
 
 pub han-starts : (c : ℕ) → 0x4E00 ≤ c → c ≤ 0xA48C → isStart c ≡ true
-unfolding common pairs loAt hiAt
-han-starts c l u = common-starts c (found common c 14 (omega arith) l u)
+unfolding frequent pairs loAt hiAt
+han-starts c l u = frequent-starts c (found frequent c 5 (omega arith) l u)
 
 -- no continuation is whitespace
 pub continue-no-space : (c : ℕ) → isContinue c ≡ true → isSpace c ≡ false

@@ -115,7 +115,7 @@ found (lo ∷ hi ∷ r) c zero h l u = simp (le-leb lo c l, le-leb c hi u)
 found (lo ∷ hi ∷ r) c (suc k) h l u = simp (found r c k (le-of-suc-le-suc h) l u, either-true)
 
 -- the first range misses c where c lies before it or past it
-skipped : (lo hi : ℕ) (r : List ℕ) (c : ℕ) → (c < lo) ⊎ (hi < c) → member (lo ∷ hi ∷ r) c ≡ member r c
+pub skipped : (lo hi : ℕ) (r : List ℕ) (c : ℕ) → (c < lo) ⊎ (hi < c) → member (lo ∷ hi ∷ r) c ≡ member r c
 unfolding member
 skipped lo hi r c (inl l) = simp (lt-leb lo c l)
 skipped lo hi r c (inr u) = simp (lt-leb c hi u, both-false)

@@ -1,8 +1,7 @@
 // Whether a character is whitespace, starts an identifier or continues one, and the runs of such characters.
-use crate::common::COMMON;
-use crate::tables::CONTINUE;
+use crate::continues::in_continue;
+use crate::start::in_start;
 use crate::tables::SPACE;
-use crate::tables::START;
 use utf8::Seen;
 ghost use mathlib.Core.Path.{_≡_};
 ghost use mathlib.Core.Bool.{true, false};
@@ -15,8 +14,9 @@ ghost use Rattle.letters.specs.Ascii.{asciiSpace, asciiStart, asciiConti
 ghost use Rattle.letters.specs.Questions.{isSpace, isStart, isContinue};
 ghost use Rattle.letters.specs.Asked.{asked};
 
-mod common; // common.rt: the scripts that names are mostly written in
 mod tables; // tables.rt: White_Space, identifier start and continuation
+mod start; // start.rt: the table of identifier starts, a part at a time
+mod continues; // continues.rt: the table of continuations likewise
 
 // Whether a character is White_Space. ASCII is answered without the table.
 pub fn is_space(c: u32) -> bool
@@ -28,7 +28,7 @@ pub fn is_space(c: u32) -> bool
     in_space(c)
 }
 
-// Whether a character can start an identifier: `_` or XID_Start. ASCII and the common scripts are answered without the long table.
+// Whether a character can start an identifier: `_` or XID_Start. ASCII and the letters that names mostly have beyond it are answered without the table.
 pub fn is_start(c: u32) -> bool
     ensures { λ r. ⌜ r ≡ isStart c ⌝ }
 {
@@ -36,9 +36,6 @@ pub fn is_start(c: u32) -> bool
         return ascii_start(c as u8);
     }
     if is_frequent(c) {
-        return true;
-    }
-    if in_common(c) {
         return true;
     }
     in_start(c)
@@ -52,9 +49,6 @@ pub fn is_continue(c: u32) -> bool
         return ascii_continue(c as u8);
     }
     if is_frequent(c) {
-        return true;
-    }
-    if in_common(c) {
         return true;
     }
     in_continue(c)
@@ -105,7 +99,7 @@ fn ascii_continue(b: u8) -> bool
     ascii_start(b)
 }
 
-// Whether a character is in the ranges that names mostly have beyond ASCII, Latin letters and Han characters, which no table is stored for.
+// Whether a character is in the ranges that names mostly have beyond ASCII, Latin, Greek and Cyrillic letters and Han characters, which no table is stored for.
 fn is_frequent(c: u32) -> bool
     ensures { λ r. ⌜ (r ≡ true → isStart c ≡ true) ⌝ }
 {
@@ -113,10 +107,16 @@ fn is_frequent(c: u32) -> bool
         if c <= 0x2C1 {
             return true;
         }
-        if c < 0x4E00 {
+        if 0x4E00 <= c {
+            return c <= 0xA48C;
+        }
+        if c < 0x3A3 {
             return false;
         }
-        return c <= 0xA48C;
+        if 0x481 < c {
+            return false;
+        }
+        return c != 0x3F6;
     }
     if c < 0xC0 {
         return false;
@@ -127,29 +127,11 @@ fn is_frequent(c: u32) -> bool
     c != 0xF7
 }
 
-// The tables stand in functions of their own: a function that names a constant array stores it anew in each call.
+// The table stands in a function of its own: a function that names a constant array stores it anew in each call.
 fn in_space(c: u32) -> bool
     ensures { λ r. ⌜ r ≡ isSpace c ⌝ }
 {
     in_table(&SPACE, c)
-}
-
-fn in_common(c: u32) -> bool
-    ensures { λ r. ⌜ (r ≡ true → isStart c ≡ true) ⌝ }
-{
-    in_table(&COMMON, c)
-}
-
-fn in_start(c: u32) -> bool
-    ensures { λ r. ⌜ r ≡ isStart c ⌝ }
-{
-    in_table(&START, c)
-}
-
-fn in_continue(c: u32) -> bool
-    ensures { λ r. ⌜ r ≡ isContinue c ⌝ }
-{
-    in_table(&CONTINUE, c)
 }
 
 // Where the whitespace from `at` ends. An ASCII character above the space ends it at once.

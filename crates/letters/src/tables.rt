@@ -26,7 +26,8 @@ pub const SPACE: [u32; 20] = [
 ];
 
 // Identifier start, `_` or XID_Start: 692 closed ranges, low and high bound in turn.
-pub const START: [u32; 1384] = [
+// In parts: each has the ranges below the code in its name that no part before it has.
+pub const START_BELOW_530: [u32; 48] = [
     0x41,
     0x5A,
     0x5F,
@@ -75,6 +76,9 @@ pub const START: [u32; 1384] = [
     0x481,
     0x48A,
     0x52F,
+];
+
+pub const START_BELOW_600: [u32; 10] = [
     0x531,
     0x556,
     0x559,
@@ -85,6 +89,9 @@ pub const START: [u32; 1384] = [
     0x5EA,
     0x5EF,
     0x5F2,
+];
+
+pub const START_BELOW_800: [u32; 30] = [
     0x620,
     0x64A,
     0x66E,
@@ -115,6 +122,9 @@ pub const START: [u32; 1384] = [
     0x7F5,
     0x7FA,
     0x7FA,
+];
+
+pub const START_BELOW_A00: [u32; 52] = [
     0x800,
     0x815,
     0x81A,
@@ -167,6 +177,9 @@ pub const START: [u32; 1384] = [
     0x9F1,
     0x9FC,
     0x9FC,
+];
+
+pub const START_BELOW_B80: [u32; 60] = [
     0xA05,
     0xA0A,
     0xA0F,
@@ -227,6 +240,9 @@ pub const START: [u32; 1384] = [
     0xB61,
     0xB71,
     0xB71,
+];
+
+pub const START_BELOW_D00: [u32; 58] = [
     0xB83,
     0xB83,
     0xB85,
@@ -285,6 +301,9 @@ pub const START: [u32; 1384] = [
     0xCE1,
     0xCF1,
     0xCF2,
+];
+
+pub const START_BELOW_1000: [u32; 62] = [
     0xD04,
     0xD0C,
     0xD0E,
@@ -347,6 +366,9 @@ pub const START: [u32; 1384] = [
     0xF6C,
     0xF88,
     0xF8C,
+];
+
+pub const START_BELOW_1700: [u32; 74] = [
     0x1000,
     0x102A,
     0x103F,
@@ -421,6 +443,9 @@ pub const START: [u32; 1384] = [
     0x16EA,
     0x16EE,
     0x16F8,
+];
+
+pub const START_BELOW_1D00: [u32; 70] = [
     0x1700,
     0x1711,
     0x171F,
@@ -491,6 +516,9 @@ pub const START: [u32; 1384] = [
     0x1CF6,
     0x1CFA,
     0x1CFA,
+];
+
+pub const START_BELOW_2C00: [u32; 72] = [
     0x1D00,
     0x1DBF,
     0x1E00,
@@ -563,6 +591,9 @@ pub const START: [u32; 1384] = [
     0x214E,
     0x2160,
     0x2188,
+];
+
+pub const START_BELOW_3000: [u32; 34] = [
     0x2C00,
     0x2CE4,
     0x2CEB,
@@ -597,6 +628,9 @@ pub const START: [u32; 1384] = [
     0x2DD6,
     0x2DD8,
     0x2DDE,
+];
+
+pub const START_BELOW_A500: [u32; 30] = [
     0x3005,
     0x3007,
     0x3021,
@@ -627,6 +661,9 @@ pub const START: [u32; 1384] = [
     0xA48C,
     0xA4D0,
     0xA4FD,
+];
+
+pub const START_BELOW_AC00: [u32; 96] = [
     0xA500,
     0xA60C,
     0xA610,
@@ -723,6 +760,9 @@ pub const START: [u32; 1384] = [
     0xAB69,
     0xAB70,
     0xABE2,
+];
+
+pub const START_BELOW_FB00: [u32; 10] = [
     0xAC00,
     0xD7A3,
     0xD7B0,
@@ -733,6 +773,9 @@ pub const START: [u32; 1384] = [
     0xFA6D,
     0xFA70,
     0xFAD9,
+];
+
+pub const START_BELOW_10000: [u32; 60] = [
     0xFB00,
     0xFB06,
     0xFB13,
@@ -793,6 +836,9 @@ pub const START: [u32; 1384] = [
     0xFFD7,
     0xFFDA,
     0xFFDC,
+];
+
+pub const START_BELOW_10D00: [u32; 134] = [
     0x10000,
     0x1000B,
     0x1000D,
@@ -927,6 +973,9 @@ pub const START: [u32; 1384] = [
     0x10CB2,
     0x10CC0,
     0x10CF2,
+];
+
+pub const START_BELOW_11700: [u32; 126] = [
     0x10D00,
     0x10D23,
     0x10D4A,
@@ -1053,6 +1102,9 @@ pub const START: [u32; 1384] = [
     0x116AA,
     0x116B8,
     0x116B8,
+];
+
+pub const START_BELOW_16F00: [u32; 124] = [
     0x11700,
     0x1171A,
     0x11740,
@@ -1177,6 +1229,9 @@ pub const START: [u32; 1384] = [
     0x16EB8,
     0x16EBB,
     0x16ED3,
+];
+
+pub const START_BELOW_1E000: [u32; 108] = [
     0x16F00,
     0x16F4A,
     0x16F50,
@@ -1285,6 +1340,9 @@ pub const START: [u32; 1384] = [
     0x1DF1E,
     0x1DF25,
     0x1DF2A,
+];
+
+pub const START_REST: [u32; 126] = [
     0x1E030,
     0x1E06D,
     0x1E100,
@@ -1414,7 +1472,8 @@ pub const START: [u32; 1384] = [
 ];
 
 // Identifier continuation, XID_Continue: 806 closed ranges, low and high bound in turn.
-pub const CONTINUE: [u32; 1612] = [
+// In parts: each has the ranges below the code in its name that no part before it has.
+pub const CONTINUE_BELOW_530: [u32; 52] = [
     0x30,
     0x39,
     0x41,
@@ -1467,6 +1526,9 @@ pub const CONTINUE: [u32; 1612] = [
     0x487,
     0x48A,
     0x52F,
+];
+
+pub const CONTINUE_BELOW_600: [u32; 20] = [
     0x531,
     0x556,
     0x559,
@@ -1487,6 +1549,9 @@ pub const CONTINUE: [u32; 1612] = [
     0x5EA,
     0x5EF,
     0x5F2,
+];
+
+pub const CONTINUE_BELOW_800: [u32; 24] = [
     0x610,
     0x61A,
     0x620,
@@ -1511,6 +1576,9 @@ pub const CONTINUE: [u32; 1612] = [
     0x7FA,
     0x7FD,
     0x7FD,
+];
+
+pub const CONTINUE_BELOW_A00: [u32; 48] = [
     0x800,
     0x82D,
     0x840,
@@ -1559,6 +1627,9 @@ pub const CONTINUE: [u32; 1612] = [
     0x9FC,
     0x9FE,
     0x9FE,
+];
+
+pub const CONTINUE_BELOW_B80: [u32; 90] = [
     0xA01,
     0xA03,
     0xA05,
@@ -1649,6 +1720,9 @@ pub const CONTINUE: [u32; 1612] = [
     0xB6F,
     0xB71,
     0xB71,
+];
+
+pub const CONTINUE_BELOW_D00: [u32; 84] = [
     0xB82,
     0xB83,
     0xB85,
@@ -1733,6 +1807,9 @@ pub const CONTINUE: [u32; 1612] = [
     0xCEF,
     0xCF1,
     0xCF3,
+];
+
+pub const CONTINUE_BELOW_1000: [u32; 94] = [
     0xD00,
     0xD0C,
     0xD0E,
@@ -1827,6 +1904,9 @@ pub const CONTINUE: [u32; 1612] = [
     0xFBC,
     0xFC6,
     0xFC6,
+];
+
+pub const CONTINUE_BELOW_1700: [u32; 64] = [
     0x1000,
     0x1049,
     0x1050,
@@ -1891,6 +1971,9 @@ pub const CONTINUE: [u32; 1612] = [
     0x16EA,
     0x16EE,
     0x16F8,
+];
+
+pub const CONTINUE_BELOW_1D00: [u32; 88] = [
     0x1700,
     0x1715,
     0x171F,
@@ -1979,6 +2062,9 @@ pub const CONTINUE: [u32; 1612] = [
     0x1CD2,
     0x1CD4,
     0x1CFA,
+];
+
+pub const CONTINUE_BELOW_2C00: [u32; 82] = [
     0x1D00,
     0x1F15,
     0x1F18,
@@ -2061,6 +2147,9 @@ pub const CONTINUE: [u32; 1612] = [
     0x214E,
     0x2160,
     0x2188,
+];
+
+pub const CONTINUE_BELOW_3000: [u32; 34] = [
     0x2C00,
     0x2CE4,
     0x2CEB,
@@ -2095,6 +2184,9 @@ pub const CONTINUE: [u32; 1612] = [
     0x2DDE,
     0x2DE0,
     0x2DFF,
+];
+
+pub const CONTINUE_BELOW_A500: [u32; 30] = [
     0x3005,
     0x3007,
     0x3021,
@@ -2125,6 +2217,9 @@ pub const CONTINUE: [u32; 1612] = [
     0xA48C,
     0xA4D0,
     0xA4FD,
+];
+
+pub const CONTINUE_BELOW_AC00: [u32; 78] = [
     0xA500,
     0xA60C,
     0xA610,
@@ -2203,6 +2298,9 @@ pub const CONTINUE: [u32; 1612] = [
     0xABED,
     0xABF0,
     0xABF9,
+];
+
+pub const CONTINUE_BELOW_FB00: [u32; 10] = [
     0xAC00,
     0xD7A3,
     0xD7B0,
@@ -2213,6 +2311,9 @@ pub const CONTINUE: [u32; 1612] = [
     0xFA6D,
     0xFA70,
     0xFAD9,
+];
+
+pub const CONTINUE_BELOW_10000: [u32; 68] = [
     0xFB00,
     0xFB06,
     0xFB13,
@@ -2281,6 +2382,9 @@ pub const CONTINUE: [u32; 1612] = [
     0xFFD7,
     0xFFDA,
     0xFFDC,
+];
+
+pub const CONTINUE_BELOW_10D00: [u32; 146] = [
     0x10000,
     0x1000B,
     0x1000D,
@@ -2427,6 +2531,9 @@ pub const CONTINUE: [u32; 1612] = [
     0x10CB2,
     0x10CC0,
     0x10CF2,
+];
+
+pub const CONTINUE_BELOW_11700: [u32; 160] = [
     0x10D00,
     0x10D27,
     0x10D30,
@@ -2587,6 +2694,9 @@ pub const CONTINUE: [u32; 1612] = [
     0x116C9,
     0x116D0,
     0x116E3,
+];
+
+pub const CONTINUE_BELOW_16F00: [u32; 160] = [
     0x11700,
     0x1171A,
     0x1171D,
@@ -2747,6 +2857,9 @@ pub const CONTINUE: [u32; 1612] = [
     0x16EB8,
     0x16EBB,
     0x16ED3,
+];
+
+pub const CONTINUE_BELOW_1E000: [u32; 142] = [
     0x16F00,
     0x16F4A,
     0x16F4F,
@@ -2889,6 +3002,9 @@ pub const CONTINUE: [u32; 1612] = [
     0x1DF1E,
     0x1DF25,
     0x1DF2A,
+];
+
+pub const CONTINUE_REST: [u32; 138] = [
     0x1E000,
     0x1E006,
     0x1E008,

@@ -1,6 +1,6 @@
 //! The generated files: their places, how they are written, and how their numbers are read back.
 
-use crate::table::{self, Table};
+use crate::table::{self, Part, Table};
 use std::fs;
 use std::path::Path;
 
@@ -38,7 +38,9 @@ pub fn check(root: &Path, tables: &[Table]) -> Result<(), String> {
     for table in tables {
         let numbers = table.numbers();
         let definition = load(root, &definition_file(table))?;
-        agree(&hex_numbers(constant_of(&constants, table.constant)), &numbers, CONSTANTS)?;
+        for part in table.parts() {
+            agree(&hex_numbers(constant_of(&constants, &part.name)), &part.numbers, CONSTANTS)?;
+        }
         agree(&hex_numbers(&definition), &numbers, &definition_file(table))?;
         if table.word != "space" {
             agree(&hex_numbers(constant_of(&stand_in, table.constant)), &numbers, STAND_IN)?;
@@ -62,16 +64,22 @@ fn constants(tables: &[Table]) -> String {
          // `oracle/tables` writes both from the compiler's own lexer and checks that they agree.\n",
     );
     for table in tables {
-        let numbers = table.numbers();
-        text += &format!(
-            "\n// {}\npub const {}: [u32; {}] = [\n{}];\n",
-            table.comment,
-            table.constant,
-            numbers.len(),
-            lines(&numbers, 1, |n| format!("0x{n:X},"))
-        );
+        text += &format!("\n// {}\n", table.comment);
+        if !table.bounds.is_empty() {
+            text += "// In parts: each has the ranges below the code in its name that no part before it has.\n";
+        }
+        text += &table.parts().iter().map(constant).collect::<Vec<_>>().join("\n");
     }
     text
+}
+
+fn constant(part: &Part) -> String {
+    format!(
+        "pub const {}: [u32; {}] = [\n{}];\n",
+        part.name,
+        part.numbers.len(),
+        lines(&part.numbers, 1, |n| format!("0x{n:X},"))
+    )
 }
 
 /// One table as a list that proofs can compute with.
