@@ -1,5 +1,5 @@
 -- Identifier continuation, XID_Continue: 806 closed ranges, low and high bound in turn.
--- Written by `oracle/tables` with the constant CONTINUE in src/tables.rt, which has the same numbers.
+-- Written by `oracle/tables` with the constants of src/tables.rt, which have the same numbers.
 use Prim.Native.Nat.{ℕ}
 use mathlib.Core.List.{List, [], _∷_}
 

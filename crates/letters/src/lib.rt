@@ -164,7 +164,7 @@ pub fn continue_end(text: &[u8], at: usize) -> usize
 }
 
 // The place after the ASCII continuations at `at`.
-fn ascii_continue_end(text: &[u8], at: usize) -> usize
+pub fn ascii_continue_end(text: &[u8], at: usize) -> usize
     ensures { λ r. ⌜ runEnd isContinue (now (text .entry)) r ≡ runEnd isContinue (now (text .entry)) at ⌝ }
     ensures { λ r. ⌜ (r < length (now (text .entry)) → asciiContinue (getD (now (text .entry)) r 0) ≡ false) ⌝ }
 {

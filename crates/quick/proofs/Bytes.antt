@@ -21,6 +21,7 @@ use Rattle.frame.specs.Places.{place, rangeOf}
 use Rattle.scan.specs.Characters.{isAt, consumed}
 use Rattle.scan.specs.Words.{isDigit, digitsAt, numberFrom, numberRead, wordEnd, wordFrom, isUnderscore, wordRead}
 use Rattle.scan.specs.ScanLaws.{run-in, word-in, is-at-byte, is-at-end}
+use Rattle.scan.specs.AsciiWords.{byte-in, start-in, word-start}
 use Rattle.scan.specs.declared.Flaw.{Flaw}
 use Rattle.scan.specs.declared.Number.{Number}
 use Rattle.placeholder.specs.Parts.{isAlign}
@@ -33,14 +34,6 @@ unfolding isDigit
 digit-range y = (within-low 0x30 0x39 y, within-high 0x30 0x39 y)
 
 module _ (t : List ℕ) (i : ℕ) where
-  -- a byte that is not 0 is within the text
-  pub byte-in : 0 < getD t i 0 → i < length t
-  byte-in p = go (ltb i (length t)) refl
-    where
-      go : (x : Bool) → ltb i (length t) ≡ x → i < length t
-      go true e = ltb-true i (length t) e
-      go false e = absurd (omega (arith, List·getD-eq-default t 0 (ltb-false i (length t) e)))
-
   module _ (c : ℕ) (p : 0 < c) (l : c < 0x80) where
     -- an ASCII character is at a place exactly where its byte is
     pub at-byte : isAt t (place i) c ≡ eqb (getD t i 0) c
@@ -137,36 +130,6 @@ module _ {t : List ℕ} {at : ℕ} where
   pub room-word : {end : ℕ} → Room t at → end ≡ wordEnd t (place at) .0 → Room t end
   room-word r e = record { within = rw e (word-in t (place at) (r .within)); small = r .small }
 
--- 0 starts no word
-no-start : asciiStart 0 ≡ false
-unfolding asciiStart within
-no-start = refl
-
--- what starts a word is not 0
-start-in : (b : ℕ) → asciiStart b ≡ true → 0 < b
-start-in zero y = absurd (true≢false (sym y ∙ no-start))
-start-in (suc k) y = omega arith
-
-module _ (t : List ℕ) (at : ℕ) {b : ℕ} (e : b ≡ getD t at 0) (l : b < 0x80) where
-  -- an ASCII start begins a word
-  pub word-start : asciiStart b ≡ true → wordEnd t (place at) .0 ≡ runEnd isContinue t (at + 1)
-  unfolding wordEnd pick
-  word-start y =
-      let z : asciiStart (getD t at 0) ≡ true = rw e at y in
-      let h = start-in (getD t at 0) z in
-      rw (ascii-char t at (byte-in t at h) (omega arith), ascii-start (getD t at 0) (omega arith), z)
-
-  -- and no other ASCII character does
-  pub word-none : asciiStart b ≡ false → wordEnd t (place at) .0 ≡ at
-  unfolding wordEnd pick
-  word-none y = go (ltb at (length t)) refl
-    where
-      go : (x : Bool) → ltb at (length t) ≡ x → wordEnd t (place at) .0 ≡ at
-      go true q =
-          let z : asciiStart (getD t at 0) ≡ false = rw e at y in
-          rw (ascii-char t at (ltb-true at (length t) q) (omega arith), ascii-start (getD t at 0) (omega arith), z)
-      go false q = rw (past-end t at (ltb-false at (length t) q))
-
 -- a word of which nothing was passed, or of which ASCII letters were, ends where it does
 pub word-anew : (t : List ℕ) (at : ℕ) {known : ℕ} → known ≡ at → wordFrom t (place at) known .0 ≡ wordEnd t (place at) .0
 unfolding wordFrom pick
@@ -176,17 +139,6 @@ pub word-further : (t : List ℕ) (at : ℕ) {b known : ℕ} → b ≡ getD t at
     wordFrom t (place at) known .0 ≡ wordEnd t (place at) .0
 unfolding wordFrom pick
 word-further t at {b} {known} e l y r = rw (lt-ltb at known (omega (arith, r .on))) (r .run ∙ sym (word-start t at e l y))
-
--- a run of continuations stops at an ASCII byte that is none, and at the end
-pub continue-stop : (t : List ℕ) (i : ℕ) {c : ℕ} → c ≡ getD t i 0 → c < 0x80 → (i < length t → asciiContinue (getD t i 0) ≡ false) → runEnd isContinue t i ≡ i
-continue-stop t i e l n = go (ltb i (length t)) refl
-  where
-    go : (x : Bool) → ltb i (length t) ≡ x → runEnd isContinue t i ≡ i
-    go true q =
-        let h = ltb-true i (length t) q in
-        let b : getD t i 0 < 0x80 = omega (arith, e) in
-        ascii-stop isContinue t i h b (ascii-continue _ b ∙ n h)
-    go false q = run-end isContinue t i (past-end t i (ltb-false i (length t) q))
 
 -- CHARACTERS OF ASCII, one a byte: one more
 pub ascii-one : (t : List ℕ) (i : ℕ) → i < length t → getD t i 0 < 0x80 → (e : ℕ) → i + 1 ≤ e → i + 1 + length (charsOf t (i + 1) e) ≡ i + length (charsOf t i e)

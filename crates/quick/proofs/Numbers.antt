@@ -17,7 +17,8 @@ use Rattle.scan.specs.declared.Number.{Number}
 use Rattle.scan.specs.declared.NumberRead.{NumberRead}
 use Rattle.scan.specs.declared.Numeral.{Numeral}
 use Rattle.quick.specs.PartsTold.{Room, part, NumberTold}
-use Rattle.quick.proofs.Bytes.{byte-in, digit-range, digit-seen, no-digit}
+use Rattle.scan.specs.AsciiWords.{byte-in}
+use Rattle.quick.proofs.Bytes.{digit-range, digit-seen, no-digit}
 
 -- ten to the power k
 abbrev pub ten : ℕ → ℕ

@@ -32,7 +32,8 @@ use Rattle.quick.specs.declared.PartTold.{PartTold}
 use Rattle.quick.specs.declared.TypeTold.{TypeTold}
 use Rattle.quick.specs.Tellings.{foundOf, countOf, widthOf, precisionOf, countSpan, backOf, fillOf, typeSpan, afterStar, blankFlaw}
 use Rattle.quick.specs.PartsTold.{Known, part, endsByte, alignByte, signByte, blankWord, rawWord, signOf, debugOf, typeWord, NumberTold, PlaceTold, FillTold, CountGiven, WidthTold, PrecisionTold, TypeKnown}
-use Rattle.quick.proofs.Bytes.{byte-in, at-byte, has, lacks, align-byte, no-number, word-told}
+use Rattle.scan.specs.AsciiWords.{byte-in}
+use Rattle.quick.proofs.Bytes.{at-byte, has, lacks, align-byte, no-number, word-told}
 
 -- a part that is not told
 abbrev pub unknown : ℕ → PartTold

@@ -36,7 +36,8 @@ use Rattle.quick.specs.declared.SpecTold.{SpecTold}
 use Rattle.quick.specs.declared.PlaceholderTold.{PlaceholderTold}
 use Rattle.quick.specs.Tellings.{foundOf, afterStar, specOf, argumentOf, nextOf, blankFlaw, blanksOf, placedHint, closingOf, toldRead, Tells}
 use Rattle.quick.specs.PartsTold.{Known, hintOf, onwardOf, SpecKnown, NoSpec, LeftTold, PlaceTold, PlaceEnds}
-use Rattle.quick.proofs.Bytes.{byte-in, has, lacks, run-again}
+use Rattle.scan.specs.AsciiWords.{byte-in}
+use Rattle.quick.proofs.Bytes.{has, lacks, run-again}
 use Rattle.quick.proofs.Endings.{past-byte, recover-told, hint-in}
 
 -- the spec that is told, with its colon

@@ -257,12 +257,23 @@ pub fn span_across(text: &[u8], frame: Frame, first: TextPlace, last: TextPlace)
     Span { start, end }
 }
 
-// Where the word at a place ends.
+// Where the word at a place ends. One in ASCII is passed in place, and only one with other letters takes a call.
 pub fn word_end(text: &[u8], at: TextPlace) -> TextPlace
     ensures { λ r. ⌜ r ≡ wordEnd (now (text .entry)) at ⌝ }
 {
     let i = at.0;
-    word_from(text, at, i)
+    let b = utf8::byte(text, i);
+    if 0x80 <= b {
+        return word_from(text, at, i);
+    }
+    if !letters::ascii_start(b) {
+        return at;
+    }
+    let end = letters::ascii_continue_end(text, i + 1);
+    if 0x80 <= utf8::byte(text, end) {
+        return word_from(text, at, i);
+    }
+    TextPlace(end)
 }
 
 // The same, where the characters before `known` were passed; where that is not past the place, none were. So a caller that passed some need not begin anew.

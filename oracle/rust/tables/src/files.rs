@@ -86,7 +86,7 @@ fn constant(part: &Part) -> String {
 fn definition(table: &Table) -> String {
     format!(
         "-- {}\n\
-         -- Written by `oracle/tables` with the constant {} in src/tables.rt, which has the same numbers.\n\
+         -- Written by `oracle/tables` with the constants of src/tables.rt, which have the same numbers.\n\
          use Prim.Native.Nat.{{ℕ}}\n\
          use mathlib.Core.List.{{List, [], _∷_}}\n\
          \n\
@@ -94,7 +94,6 @@ fn definition(table: &Table) -> String {
          {word} =\n\
          {}    []\n",
         table.comment,
-        table.constant,
         lines(&table.numbers(), 8, |n| format!("0x{n:X} ∷")),
         word = table.word,
     )
