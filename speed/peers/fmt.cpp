@@ -1,5 +1,5 @@
-// {fmt}'s own parser of format strings with a handler that collects its pieces, as a user of it would write one. It checks no UTF-8, keeps no spans
-// and stops at the first error.
+// {fmt}'s own parser of format strings with a handler that collects its pieces, as a user of it would write one: in a list that is made anew for each text, or
+// in one that is kept from text to text. It checks no UTF-8, keeps no spans and stops at the first error.
 #define FMT_HEADER_ONLY
 #include <fmt/format.h>
 
@@ -46,7 +46,7 @@ struct Specs {
 };
 
 struct Collector {
-    std::vector<Piece> pieces;
+    explicit Collector(std::vector<Piece> &list) : pieces(list) {}
 
     void on_text(const char *begin, const char *end) { pieces.push_back({false, 0, {begin, static_cast<std::size_t>(end - begin)}}); }
     int on_arg_id() { return next++; }
@@ -64,21 +64,34 @@ struct Collector {
     void on_error(const char *) { throw Stopped(); }
 
   private:
+    std::vector<Piece> &pieces;
     int next = 0;
     fmt::string_view named;
 
     void add(int id) { pieces.push_back({true, id, named}); }
 };
 
-}  // namespace
-
-// How many pieces, or -1 where the parser stops at an error.
-extern "C" std::ptrdiff_t peer_fmt(const char *text, std::size_t length) {
-    Collector collector;
+std::ptrdiff_t parsed(const char *text, std::size_t length, std::vector<Piece> &pieces) {
+    Collector collector(pieces);
     try {
         fmt::detail::parse_format_string<false>(fmt::string_view(text, length), collector);
     } catch (const std::exception &) {
         return -1;
     }
-    return static_cast<std::ptrdiff_t>(collector.pieces.size());
+    return static_cast<std::ptrdiff_t>(pieces.size());
+}
+
+}  // namespace
+
+// How many pieces, or -1 where the parser stops at an error.
+extern "C" std::ptrdiff_t peer_fmt(const char *text, std::size_t length) {
+    std::vector<Piece> pieces;
+    return parsed(text, length, pieces);
+}
+
+// The same, with the list kept.
+extern "C" std::ptrdiff_t peer_fmt_kept(const char *text, std::size_t length) {
+    static std::vector<Piece> pieces;
+    pieces.clear();
+    return parsed(text, length, pieces);
 }

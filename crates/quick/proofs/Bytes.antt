@@ -69,7 +69,7 @@ module _ (t : List ℕ) (i : ℕ) where
   pub digit-seen : isDigit (getD t i 0) ≡ true → Peeked t i (getD t i 0) 1
   digit-seen y =
       let r = digit-range y in
-      peeked t i (ascii-char t i (byte-in (omega arith)) (omega arith))
+      peeked t i (ascii-char t i (byte-in t i (omega arith)) (omega arith))
 
   -- where the byte is no digit, no digit stands
   pub no-digit : isDigit (getD t i 0) ≡ false → (digitsAt t (place i) ≡ []) × (runEnd isDigit t i ≡ i)

@@ -1,5 +1,5 @@
 -- What is told of each part is what is read, from the bytes at its place. Rests on Bytes and on the definitions of `scan` and `placeholder`.
-use Prim.Native.Nat.{ℕ, zero, suc, _+_, _-_, _≤_, _<_}
+use Prim.Native.Nat.{ℕ, zero, suc, _+_, _-_, _≤_, _<_, zero-le}
 use mathlib.Core.Path.{_≡_, refl, sym, ap, _∙_}
 use mathlib.Core.Bool.{Bool, true, false, true≢false}
 use mathlib.Core.List.{List}
@@ -33,6 +33,7 @@ use Rattle.quick.specs.declared.TypeTold.{TypeTold}
 use Rattle.quick.specs.Tellings.{foundOf, countOf, widthOf, precisionOf, countSpan, backOf, fillOf, typeSpan, afterStar, blankFlaw}
 use Rattle.quick.specs.PartsTold.{Known, part, endsByte, alignByte, signByte, blankWord, rawWord, signOf, debugOf, typeWord, NumberTold, PlaceTold, FillTold, CountGiven, WidthTold, PrecisionTold, TypeKnown}
 use Rattle.scan.specs.AsciiWords.{byte-in}
+use Rattle.scan.specs.ReachLaws.{few-chars}
 use Rattle.quick.proofs.Bytes.{at-byte, has, lacks, align-byte, no-number, word-told}
 
 -- a part that is not told
@@ -83,6 +84,11 @@ implied n p = go (eqb (p .tag) 0) (eqb (p .tag) 1) (eqb (p .tag) 2)
     go false true c = refl
     go false false true = refl
     go false false false = refl
+
+-- no more characters are given back than the text has bytes
+pub back-few : (t : List ℕ) (from word : ℕ) (p : PartTold) → backOf t from word p ≤ length t
+unfolding backOf
+back-few t from word p = pick-elim (λ (n : ℕ). n ≤ length t) (eqb (p .tag) 0) (λ _. few-chars t from word) (λ _. zero-le)
 
 -- such a sign is not 0
 pub sign-some : (b : ℕ) → signByte b ≡ true → 0 < b
@@ -229,18 +235,18 @@ module _ {t : List ℕ} {at : ℕ} where
         some q = let l : at ≤ word = rw e (word-on t (place at)) in let n = eqb-false at word q in omega arith
 
   -- a precision that is not told
-  pub precision-unknown : {i : ℕ} → i ≤ length t → PrecisionTold t at (unknown i)
-  precision-unknown h = record { most = λ k. absurd (k refl); read = λ k. absurd (k refl); inside = h }
+  pub precision-unknown : {i : ℕ} → i ≤ length t → PrecisionTold t at 0 (unknown i)
+  precision-unknown h = record { most = λ k. absurd (k refl); read = λ k. absurd (k refl); inside = h; few = zero-le }
 
   -- no precision
-  pub precision-none : (getD t at 0 ≡ 0x2E → ⊥) → at ≤ length t → PrecisionTold t at (none at)
+  pub precision-none : (getD t at 0 ≡ 0x2E → ⊥) → at ≤ length t → PrecisionTold t at 0 (none at)
   unfolding precisionRead precisionOf widthOf countOf countSpan afterStar pick
   precision-none b h =
-      record { most = λ _. omega arith; read = λ _ f n. rw (lacks t at 0x2E (omega arith) (omega arith) b); inside = h }
+      record { most = λ _. omega arith; read = λ _ f n. rw (lacks t at 0x2E (omega arith) (omega arith) b); inside = h; few = zero-le }
 
   module _ (dot : getD t at 0 ≡ 0x2E) where
     -- a star
-    pub precision-star : getD t (at + 1) 0 ≡ 0x2A → PrecisionTold t at (part 3 0 (at + 2) false)
+    pub precision-star : getD t (at + 1) 0 ≡ 0x2A → PrecisionTold t at 0 (part 3 0 (at + 2) false)
     unfolding precisionRead afterDot precisionOf widthOf countOf countSpan afterStar pick
     precision-star b =
         let q : at + 1 + 1 ≡ at + 2 = omega arith in
@@ -250,11 +256,12 @@ module _ {t : List ℕ} {at : ℕ} where
               λ _ f n.
               rw (has t at 0x2E (omega arith) (omega arith) dot, has t (at + 1) 0x2A (omega arith) (omega arith) b, q);
           inside = let h = byte-in t (at + 1) (omega arith) in omega arith;
+          few = zero-le;
         }
 
     module _ {word : ℕ} {p : PartTold} (b : getD t (at + 1) 0 ≡ 0x2A → ⊥) (w : WidthTold t (at + 1) word p) (q : p .blank ≡ false) where
       -- what a width may be
-      pub precision-width : (Known p → p .tag ≡ 0 → ⊥) → PrecisionTold t at p
+      pub precision-width : (Known p → p .tag ≡ 0 → ⊥) → PrecisionTold t at 0 p
       unfolding precisionRead afterDot precisionOf backOf blankFlaw countSpan afterStar pick
       precision-width s =
           record {
@@ -271,12 +278,13 @@ module _ {t : List ℕ} {at : ℕ} where
                   ne-eqb (p .tag) 5 (λ e. omega (arith, w .most k)),
                 );
             inside = w .inside;
+            few = zero-le;
           }
 
-      -- a dot alone: no width, and no word
-      pub precision-dot : p .tag ≡ 0 → word ≡ at + 1 → PrecisionTold t at (part 5 0 (p .end) false)
-      unfolding precisionRead afterDot precisionOf widthOf countOf backOf blankFlaw countSpan afterStar pick
-      precision-dot z e =
+      -- a dot with no width behind it: a word is given back
+      pub precision-dot : p .tag ≡ 0 → PrecisionTold t at (backOf t (at + 1) word p) (part 5 0 (p .end) false)
+      unfolding precisionRead afterDot precisionOf widthOf countOf blankFlaw countSpan afterStar pick
+      precision-dot z =
           record {
             most = λ _. omega arith;
             read =
@@ -287,9 +295,9 @@ module _ {t : List ℕ} {at : ℕ} where
                   w .read (λ h. omega arith) f n,
                   q,
                   z,
-                  before-past t word (at + 1) (omega arith),
                 );
             inside = w .inside;
+            few = back-few t (at + 1) word p;
           }
 
   -- a fill: an align follows the character

@@ -95,8 +95,8 @@ module _ {t : List ℕ} {from : ℕ} {al : AlignRead} {si : SignRead} {ha fl : C
   marks-room r i = record { within = marks-in (i .inside); small = r .small }
 
   -- A SPEC IS WHAT ITS PARTS TELL
-  pub spec-known : {at word g : ℕ} {w p : PartTold} {k : TypeTold} {o : Bool} → FillTold t at from → WidthTold t (fl .at .0) word w →
-      g ≡ backOf t (fl .at .0) word w → PrecisionTold t (w .end) p → TypeKnown t (p .end) k → (o ≡ true → AllTold t (fl .ate) (fl .at .0) w p k) →
+  pub spec-known : {at word g h s : ℕ} {w p : PartTold} {k : TypeTold} {o : Bool} → FillTold t at from → WidthTold t (fl .at .0) word w →
+      g ≡ backOf t (fl .at .0) word w → PrecisionTold t (w .end) h p → s ≡ g + h → TypeKnown t (p .end) k → (o ≡ true → AllTold t (fl .ate) (fl .at .0) w p k) →
       SpecKnown t at
       (record {
         ok = o;
@@ -110,11 +110,11 @@ module _ {t : List ℕ} {from : ℕ} {al : AlignRead} {si : SignRead} {ha fl : C
         width = w;
         precision = p;
         typed = k;
-        given = g;
+        given = s;
       })
   unfolding formatRead specOf
-  spec-known {word = word} {g = g} {w = w} fi wi ba pr ki all =
-      let back : backOf t (fl .at .0) word w + 0 ≡ g = omega (arith, ba) in
+  spec-known {word = word} {g = g} {h = h} {s = s} {w = w} fi wi ba pr su ki all =
+      let back : backOf t (fl .at .0) word w + h ≡ s = omega (arith, ba, su) in
       record {
         read =
             λ y f n.

@@ -152,8 +152,8 @@ pub record WidthTold (t : List ℕ) (at word : ℕ) (p : PartTold) : Type 0 wher
   pub spanned : Known p → (f : Frame) (n : ℕ) → isImplied (widthOf t f n at p) ≡ eqb (p .tag) 0
   pub inside : p .end ≤ length t
 
--- a precision with its dot, or none
-pub record PrecisionTold (t : List ℕ) (at : ℕ) (p : PartTold) : Type 0 where
+-- a precision with its dot, or none, and how many characters behind the dot were given back
+pub record PrecisionTold (t : List ℕ) (at given : ℕ) (p : PartTold) : Type 0 where
   pub most : Known p → p .tag ≤ 5
   pub read : Known p → (f : Frame) (n : ℕ) →
       precisionRead t f (place at) n ≡ record {
@@ -162,9 +162,10 @@ pub record PrecisionTold (t : List ℕ) (at : ℕ) (p : PartTold) : Type 0 where
         at = place (p .end);
         next = afterStar n p;
         flaw = Flaw.Clean;
-        given = 0;
+        given = given;
       }
   pub inside : p .end ≤ length t
+  pub few : given ≤ length t
 
 -- a type
 pub record TypeKnown (t : List ℕ) (at : ℕ) (k : TypeTold) : Type 0 where

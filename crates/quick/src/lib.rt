@@ -27,6 +27,12 @@ pub struct PartTold {
     pub blank: bool,
 }
 
+// A precision, and how many characters were read for it and given back.
+pub struct PreciseTold {
+    pub part: PartTold,
+    pub given: usize,
+}
+
 // A word: where it ends, and whether it is known to be ASCII, a character each byte.
 pub struct WordTold {
     pub end: usize,
@@ -45,7 +51,7 @@ pub struct TypeTold {
 }
 
 // The spec after a colon: the place after its fill (that of the colon's end where there is none), its marks, where its width starts and the word
-// there ends, its other parts, and how many characters of that word were given back.
+// there ends, its other parts, and how many characters were read for a width or a precision and given back.
 pub struct SpecTold {
     pub ok: bool,
     pub fill: usize,
@@ -374,7 +380,7 @@ pub fn width(text: &[u8], at: usize, word: usize) -> PartTold
 // The precision with its dot: a star or a number; any other is not told, so that this stays small.
 pub fn precision(text: &[u8], at: usize) -> PartTold
     requires { ⌜ Room (now text) at ⌝ }
-    ensures { λ r. ⌜ PrecisionTold (now (text .entry)) at r ⌝ }
+    ensures { λ r. ⌜ PrecisionTold (now (text .entry)) at 0 r ⌝ }
 {
     if utf8::byte(text, at) != b'.' {
         return nothing(at);
@@ -389,30 +395,37 @@ pub fn precision(text: &[u8], at: usize) -> PartTold
     untold(at)
 }
 
-// Any precision that is told: a star, what a width may be, or a dot alone. A word without `$` is read and given back, and is not told, nor is the word `_`.
-pub fn any_precision(text: &[u8], at: usize) -> PartTold
+// Any precision that is told: a star, what a width may be, or a dot alone. A word without `$` behind the dot is read and given back; the word `_` is not told.
+pub fn any_precision(text: &[u8], at: usize) -> PreciseTold
     requires { ⌜ Room (now text) at ⌝ }
-    ensures { λ r. ⌜ PrecisionTold (now (text .entry)) at r ⌝ }
+    ensures { λ r. ⌜ PrecisionTold (now (text .entry)) at (r .given) (r .part) ⌝ }
 {
     if utf8::byte(text, at) != b'.' {
-        return nothing(at);
+        return kept(nothing(at));
     }
     let from = at + 1;
     if utf8::byte(text, from) == b'*' {
-        return plain(3, 0, at + 2);
+        return kept(plain(3, 0, at + 2));
     }
-    let word = word_end(text, from);
-    let count = width(text, from, word);
+    let word = word_at(text, from);
+    let count = width(text, from, word.end);
     if count.blank {
-        return untold(at);
+        return kept(untold(at));
     }
     if count.tag != 0 {
-        return count;
+        return kept(count);
     }
-    if word != from {
-        return untold(at);
+    PreciseTold {
+        part: plain(5, 0, count.end),
+        given: given_back(text, from, word, count),
     }
-    plain(5, 0, count.end)
+}
+
+// A precision of which nothing was given back.
+fn kept(part: PartTold) -> PreciseTold
+    ensures { λ r. ⌜ r ≡ record { part = part; given = 0 } ⌝ }
+{
+    PreciseTold { part, given: 0 }
 }
 
 // A sign of a type, `?`, `x` or `X`: alone it is told.

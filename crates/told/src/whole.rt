@@ -58,7 +58,8 @@ fn write_spec(
     let word = quick::word_at(text, from);
     let width = quick::width(text, from, word.end);
     put_told_width(&mut *out, k + 8, text, frame, from, width, next);
-    let precision = quick::any_precision(text, width.end);
+    let precise = quick::any_precision(text, width.end);
+    let precision = precise.part;
     put_told_precision(&mut *out, k + 16, text, frame, width.end, precision, next);
     let typed = quick::type_at(text, precision.end, from, word.end);
     put_told_type(out, k + 24, text, frame, typed);
@@ -74,7 +75,7 @@ fn write_spec(
         width,
         precision,
         typed,
-        given: quick::given_back(text, from, word, width),
+        given: quick::given_back(text, from, word, width) + precise.given,
     }
 }
 

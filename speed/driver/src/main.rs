@@ -35,27 +35,55 @@ fn quickest<const N: usize>(rounds: usize, calls: usize, mut each: [&mut dyn FnM
     best
 }
 
-/// A row of the table: what each took, and the ratios to the reader.
-fn row(name: &str, scale: f64, ours: f64, rust: f64, cpp: Option<f64>, sum: f64, doubled: Option<f64>) {
+/// What a text took each; {fmt} with a list of its own for each text, and with one that is kept.
+struct Times {
+    ours: f64,
+    rust: f64,
+    cpp: Option<f64>,
+    kept: Option<f64>,
+    sum: f64,
+}
+
+impl Times {
+    /// How many times as long as the reader the Rust took.
+    fn rust_to_ours(&self) -> f64 {
+        self.rust / self.ours
+    }
+
+    /// The reader's part of {fmt}'s time.
+    fn ours_to_cpp(&self) -> Option<f64> {
+        self.cpp.map(|cpp| self.ours / cpp)
+    }
+}
+
+/// The head of a table of such rows.
+fn head(first: &str, last: &str) {
+    println!("| {first} | this | the Rust | {{fmt}} | {{fmt}}, its list kept | sum of bytes | the Rust : this | {last} |");
+    println!("|---|---|---|---|---|---|---|---|");
+}
+
+/// A row of the table: what each took, and the ratio to the reader.
+fn row(name: &str, scale: f64, times: &Times, doubled: Option<f64>) {
     let cell = |x: Option<f64>| x.map_or_else(|| "-".to_owned(), |x| format!("{x:.2}"));
     println!(
-        "| {name} | {:.2} | {:.2} | {} | {:.2} | {:.2} | {} |",
-        ours / scale,
-        rust / scale,
-        cell(cpp.map(|x| x / scale)),
-        sum / scale,
-        rust / ours,
+        "| {name} | {:.2} | {:.2} | {} | {} | {:.2} | {:.2} | {} |",
+        times.ours / scale,
+        times.rust / scale,
+        cell(times.cpp.map(|x| x / scale)),
+        cell(times.kept.map(|x| x / scale)),
+        times.sum / scale,
+        times.rust_to_ours(),
         cell(doubled),
     );
 }
 
-fn measured(text: &Text, reader: &mut Reader, rounds: usize, calls: usize) -> (f64, f64, Option<f64>, f64) {
+fn measured(text: &Text, reader: &mut Reader, rounds: usize, calls: usize) -> Times {
     let bytes = &text.bytes[..];
     let string = std::str::from_utf8(bytes).expect("the text is UTF-8");
     let (number, pieces, errors) = reader.read(bytes);
     assert_eq!((number, pieces, errors), (0, peers::rust(string).0, peers::rust(string).1), "{}", text.name);
     let reads = peers::cpp(bytes).is_some();
-    let [ours, rust, cpp, sum] = quickest(
+    let [ours, rust, cpp, kept, sum] = quickest(
         rounds,
         calls,
         [
@@ -71,11 +99,16 @@ fn measured(text: &Text, reader: &mut Reader, rounds: usize, calls: usize) -> (f
                 }
             },
             &mut || {
+                if reads {
+                    black_box(peers::cpp_kept(black_box(bytes)));
+                }
+            },
+            &mut || {
                 black_box(peers::sum(black_box(bytes)));
             },
         ],
     );
-    (ours, rust, reads.then_some(cpp), sum)
+    Times { ours, rust, cpp: reads.then_some(cpp), kept: reads.then_some(kept), sum }
 }
 
 /// The reader by itself: what the others leave in the caches would count against the larger text.
@@ -88,15 +121,14 @@ fn alone(text: &Text, reader: &mut Reader) -> f64 {
 
 /// Large texts, in nanoseconds a byte, and how much longer the reader by itself takes for twice the text.
 fn large_texts(reader: &mut Reader, goals: &mut Goals) {
-    println!("| text, ns a byte | this | the Rust | {{fmt}} | sum of bytes | the Rust : this | twice the text |");
-    println!("|---|---|---|---|---|---|---|");
+    head("text, ns a byte", "twice the text");
     for (text, half) in texts::large(SIZE).iter().zip(texts::large(SIZE / 2)) {
         // The Rust takes seconds for a large text with errors at the front.
         let rounds = if text.name == "errors at the front" { 1 } else { ROUNDS };
-        let (ours, rust, cpp, sum) = measured(text, reader, rounds, 1);
+        let times = measured(text, reader, rounds, 1);
         let doubled = alone(text, reader) / alone(&half, reader);
-        row(text.name, text.bytes.len() as f64, ours, rust, cpp, sum, Some(doubled));
-        goals.large(text.name, rust / ours, cpp.map(|cpp| ours / cpp), doubled);
+        row(text.name, text.bytes.len() as f64, &times, Some(doubled));
+        goals.large(text.name, times.rust_to_ours(), times.ours_to_cpp(), doubled);
     }
     let text = texts::broken(SIZE);
     assert_eq!(reader.read(&text.bytes).0, 4);
@@ -115,48 +147,88 @@ fn large_texts(reader: &mut Reader, goals: &mut Goals) {
             },
         ],
     );
-    row(text.name, text.bytes.len() as f64, ours, rust, None, sum, None);
-    goals.at_least(text.name, rust / ours, 0.7);
+    let times = Times { ours, rust, cpp: None, kept: None, sum };
+    row(text.name, text.bytes.len() as f64, &times, None);
+    goals.at_least(text.name, times.rust_to_ours(), 0.7);
     println!();
 }
 
 /// What no goal is set for, in nanoseconds a byte: where the Rust is ahead, it is to be seen.
 fn seldom_texts(reader: &mut Reader) {
-    println!("| met seldom, ns a byte | this | the Rust | {{fmt}} | sum of bytes | the Rust : this | |");
-    println!("|---|---|---|---|---|---|---|");
+    head("met seldom, ns a byte", "");
     for text in texts::seldom(SIZE) {
-        let (ours, rust, cpp, sum) = measured(&text, reader, ROUNDS, 1);
-        row(text.name, text.bytes.len() as f64, ours, rust, cpp, sum, None);
+        let times = measured(&text, reader, ROUNDS, 1);
+        row(text.name, text.bytes.len() as f64, &times, None);
+    }
+    println!();
+}
+
+/// Calls of other kinds, each beside the Rust's reading of the same text, in nanoseconds a byte: no goal is set for them.
+fn other_calls(reader: &mut Reader) {
+    println!("| other calls, ns a byte | this | the Rust | the Rust : this |");
+    println!("|---|---|---|---|");
+    let text = &texts::large(SIZE)[0];
+    let bytes = &text.bytes[..];
+    let string = std::str::from_utf8(bytes).expect("the text is UTF-8");
+    let pieces = ours::count(bytes)[2];
+    let mut narrow = Reader::narrow(pieces);
+    assert_eq!(narrow.read(bytes), (0, pieces, 0));
+    let asm = texts::asm(SIZE);
+    let asm_string = std::str::from_utf8(&asm.bytes).expect("the text is UTF-8");
+    assert_eq!(reader.read_as(&asm.bytes, 1), (0, peers::rust_asm(asm_string).0, 0));
+    let [counted, to_measure, rust, asm_read, asm_rust] = quickest(
+        ROUNDS,
+        1,
+        [
+            &mut || {
+                black_box(ours::count(black_box(bytes)));
+            },
+            &mut || {
+                black_box(narrow.read(black_box(bytes)));
+            },
+            &mut || {
+                black_box(peers::rust(black_box(string)));
+            },
+            &mut || {
+                black_box(reader.read_as(black_box(&asm.bytes), 1));
+            },
+            &mut || {
+                black_box(peers::rust_asm(black_box(asm_string)));
+            },
+        ],
+    );
+    let rows = [("template text counted", bytes, counted, rust), ("template text, lists to measure", bytes, to_measure, rust), (asm.name, &asm.bytes, asm_read, asm_rust)];
+    for (name, bytes, ours, rust) in rows {
+        let scale = bytes.len() as f64;
+        println!("| {name} | {:.2} | {:.2} | {:.2} |", ours / scale, rust / scale, rust / ours);
     }
     println!();
 }
 
 /// Small texts with errors at the front: where the Rust's time grows with the square, ours must not be more at any size.
 fn front_errors(reader: &mut Reader, goals: &mut Goals) {
-    println!("| errors at the front, ns a byte | this | the Rust | {{fmt}} | sum of bytes | the Rust : this | |");
-    println!("|---|---|---|---|---|---|---|");
+    head("errors at the front, ns a byte", "");
     for size in [2, 16, 128, 1024, 8192] {
         let text = Text { name: "errors at the front", bytes: "{,".repeat(size / 2).into_bytes() };
-        let (ours, rust, cpp, sum) = measured(&text, reader, 20, (4096 / size).max(1));
-        row(&format!("{size} bytes"), size as f64, ours, rust, cpp, sum, None);
-        goals.at_least(&format!("errors at the front, {size} bytes"), rust / ours, 3.0);
+        let times = measured(&text, reader, 20, (4096 / size).max(1));
+        row(&format!("{size} bytes"), size as f64, &times, None);
+        goals.at_least(&format!("errors at the front, {size} bytes"), times.rust_to_ours(), 3.0);
     }
     println!();
 }
 
 /// Short templates, in nanoseconds a call.
 fn short_texts(reader: &mut Reader, goals: &mut Goals) {
-    println!("| text, ns a call | this | the Rust | {{fmt}} | sum of bytes | the Rust : this | |");
-    println!("|---|---|---|---|---|---|---|");
+    head("text, ns a call", "");
     for text in texts::short() {
-        let (ours, rust, cpp, sum) = measured(&text, reader, ROUNDS, 1000);
-        row(text.name, 1.0, ours, rust, cpp, sum, None);
-        goals.short(text.name, rust / ours, cpp.map(|cpp| ours / cpp));
+        let times = measured(&text, reader, ROUNDS, 1000);
+        row(text.name, 1.0, &times, None);
+        goals.short(text.name, times.rust_to_ours(), times.ours_to_cpp());
     }
     let bare = Text { name: "`{}` alone", bytes: b"{}".to_vec() };
-    let (ours, rust, cpp, sum) = measured(&bare, reader, ROUNDS, 1000);
-    row(bare.name, 1.0, ours, rust, cpp, sum, None);
-    goals.at_most("`{}` alone, ns", ours, 20.0);
+    let times = measured(&bare, reader, ROUNDS, 1000);
+    row(bare.name, 1.0, &times, None);
+    goals.at_most("`{}` alone, ns", times.ours, 20.0);
     println!();
 }
 
@@ -209,6 +281,7 @@ fn main() -> std::io::Result<()> {
     short_texts(&mut reader, &mut goals);
     front_errors(&mut reader, &mut goals);
     seldom_texts(&mut reader);
+    other_calls(&mut reader);
     member_template(&mut reader);
     stack_of_a_call(&mut reader);
     goals.print();

@@ -23,6 +23,20 @@ unsafe extern "C" {
         answer_length: usize,
     ) -> u8;
 
+    fn nitarehpu_count(
+        text: *const u8,
+        text_length: usize,
+        snippet: *const u8,
+        snippet_length: usize,
+        mode: u8,
+        style: u8,
+        hashes: usize,
+        given: u8,
+        newline: u8,
+        answer: *mut usize,
+        answer_length: usize,
+    ) -> u8;
+
     fn nitarehpu_member(
         text: *const u8,
         text_length: usize,
@@ -46,6 +60,14 @@ pub fn verdict(text: &[u8]) -> [usize; 4] {
     answer
 }
 
+/// How many records each list of a Format text without style or snippet needs.
+pub fn count(text: &[u8]) -> [usize; 8] {
+    let mut answer = [0; 8];
+    // SAFETY: each pointer goes with its own length, and the answer overlaps nothing.
+    unsafe { nitarehpu_count(text.as_ptr(), text.len(), text.as_ptr(), 0, 0, 0, 0, 0, 0, answer.as_mut_ptr(), answer.len()) };
+    answer
+}
+
 pub struct Reader {
     pieces: Vec<u32>,
     errors: Vec<u32>,
@@ -58,8 +80,18 @@ impl Reader {
         Reader { pieces: vec![0; 40 * bytes], errors: vec![0; 16 * bytes], answer: [0; 8] }
     }
 
+    /// Lists with room for so many pieces, and for an error record.
+    pub fn narrow(pieces: usize) -> Self {
+        Reader { pieces: vec![0; 40 * pieces], errors: vec![0; 16], answer: [0; 8] }
+    }
+
     /// Reads a Format text without style or snippet: the answer's number, and how many pieces and errors there are.
     pub fn read(&mut self, text: &[u8]) -> (u8, usize, usize) {
+        self.read_as(text, 0)
+    }
+
+    /// Reads a text of a mode.
+    pub fn read_as(&mut self, text: &[u8], mode: u8) -> (u8, usize, usize) {
         let mut none = [0usize; 2];
         let mut nothing = [0usize; 2];
         // SAFETY: each pointer goes with its own length, and no two lists overlap.
@@ -69,7 +101,7 @@ impl Reader {
                 text.len(),
                 text.as_ptr(),
                 0,
-                0,
+                mode,
                 0,
                 0,
                 0,

@@ -5,7 +5,16 @@ use std::hint::black_box;
 
 /// The Rust, as its users use it: a parser is made, and its pieces and errors are collected.
 pub fn rust(text: &str) -> (usize, usize) {
-    let mut parser = Parser::new(text, None, None, false, ParseMode::Format);
+    rust_as(text, ParseMode::Format)
+}
+
+/// The Rust on a text of InlineAsm mode.
+pub fn rust_asm(text: &str) -> (usize, usize) {
+    rust_as(text, ParseMode::InlineAsm)
+}
+
+fn rust_as(text: &str, mode: ParseMode) -> (usize, usize) {
+    let mut parser = Parser::new(text, None, None, false, mode);
     let pieces: Vec<Piece<'_>> = parser.by_ref().collect();
     black_box(&pieces);
     black_box(&parser.errors);
@@ -28,8 +37,24 @@ pub fn cpp(text: &[u8]) -> Option<usize> {
     usize::try_from(pieces).ok()
 }
 
+/// The same, with its list kept from text to text.
+#[cfg(cpp_peer)]
+pub fn cpp_kept(text: &[u8]) -> Option<usize> {
+    unsafe extern "C" {
+        fn peer_fmt_kept(text: *const u8, length: usize) -> isize;
+    }
+    // SAFETY: the pointer goes with its length, the text is only read, and one thread calls it.
+    let pieces = unsafe { peer_fmt_kept(text.as_ptr(), text.len()) };
+    usize::try_from(pieces).ok()
+}
+
 #[cfg(not(cpp_peer))]
 pub fn cpp(_: &[u8]) -> Option<usize> {
+    None
+}
+
+#[cfg(not(cpp_peer))]
+pub fn cpp_kept(_: &[u8]) -> Option<usize> {
     None
 }
 

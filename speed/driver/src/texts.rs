@@ -37,13 +37,21 @@ pub fn seldom(size: usize) -> Vec<Text> {
         text("counts by name", "Sample {:w$} of {:.p$} was read twice.\n"),
         text("`x?`", "Sample {:x?} of {name} was read twice.\n"),
         text("`.` alone", "Sample {:.} of {name} was read twice.\n"),
+        text("a dot and a type", "Sample {:.e} of {name} was read twice.\n"),
+        text("five digits", "Sample {12345} of {name} was read twice.\n"),
         text("the name `r`", "Sample {r} of {name} was read twice.\n"),
         text("over range", "Sample {99999} of {name} was read twice.\n"),
         text("names in Thai and Hebrew", "Sample {ก} of {ש} was read twice.\n"),
         text("names in Tamil and Georgian", "Sample {அ} of {ა} was read twice.\n"),
+        text("names all in Tamil", "{தமிழ்}{பெயர்}{எடை}"),
         text("raw names", "Sample {r#a} of {name} was read twice.\n"),
         text("fields", "Sample {a.b} of {name} was read twice.\n"),
     ]
+}
+
+/// A text of InlineAsm mode.
+pub fn asm(size: usize) -> Text {
+    Text { name: "InlineAsm mode", bytes: repeated("mov {dst}, {src:e}\n", size) }
 }
 
 /// Short templates, of 40 to 200 bytes.

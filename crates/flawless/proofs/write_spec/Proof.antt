@@ -131,7 +131,7 @@ returns-3 c =
     let wide = c .before .before .before .before .before .before .before .before .before .before .before .before .before .before .before .before .before .before .if1 .left in
     let precise = c .before .before .before .before .before .before .before .before .before .before .before .if2 .left in
     let told = c .before .ends .ensures in (
-      spec-known m (c .before .before .before .before .before .before .before .before .before .before .before .before .before .before .before .before .before .before .before .before .before .before .before .before .before .before .before .before .before .before .before .before .before .before .before .before .before .before .fill-end .ensures) (c .before .before .before .before .before .before .before .before .before .before .before .before .before .before .before .before .before .before .before .before .width .ensures) (c .given-back .ensures) (c .before .before .before .before .before .before .before .before .before .before .before .before .before .precision .ensures) (c .before .before .before .before .before .before .type-at .ensures) (λ y. told-parts wide precise (told y)),
+      spec-known m (c .before .before .before .before .before .before .before .before .before .before .before .before .before .before .before .before .before .before .before .before .before .before .before .before .before .before .before .before .before .before .before .before .before .before .before .before .before .before .fill-end .ensures) (c .before .before .before .before .before .before .before .before .before .before .before .before .before .before .before .before .before .before .before .before .width .ensures) (c .given-back .ensures) (c .before .before .before .before .before .before .before .before .before .before .before .before .before .precision .ensures) (omega arith) (c .before .before .before .before .before .before .type-at .ensures) (λ y. told-parts wide precise (told y)),
       spec-ended told,
       spec-put (now (a .text)) (a .frame) (a .at) (a .next) _ (now (a .out)) (a .k) (c .before .before .before .before .before .before .before .before .before .before .before .before .before .before .before .before .before .before .before .before .before .before .before .before .before .before .before .before .before .before .before .before .before .before .before .before .before .before .before .before .before .pre .2)
           (λ _. (omega (arith, wide), omega (arith, precise)))
