@@ -193,7 +193,7 @@ fn is_sound(flaws: ArgumentFlaws, closing: Closing) -> bool
     }
 }
 
-// Whether there is nothing to walk over.
+// Whether a step surely found nothing wrong, and there is nothing to walk over.
 pub fn is_clear(step: Step) -> bool
     ensures { λ r. ⌜ (r ≡ true → wrong (stepSlots step) ≡ []) ⌝ }
 {

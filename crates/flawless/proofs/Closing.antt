@@ -21,7 +21,7 @@ use Rattle.quick.specs.declared.SpecTold.{SpecTold}
 use Rattle.quick.specs.declared.TypeTold.{TypeTold}
 use Rattle.quick.specs.PartsTold.{Known, blankWord, rawWord, signByte, typeNone, onwardOf, TypeKnown, AllTold, SpecKnown, NoSpec, PlaceEnds}
 use Rattle.quick.specs.Tellings.{Tells}
-use Rattle.scan.specs.AsciiWords.{word-none}
+use Rattle.scan.specs.AsciiWordLaws.{word-none}
 use Rattle.quick.proofs.Bytes.{no-space}
 use Rattle.quick.proofs.Endings.{brace-silent}
 use Rattle.quick.proofs.Parts.{type-named}

@@ -1,5 +1,6 @@
 // A placeholder of Format mode in which nothing is wrong, told and written, each part as soon as it is told: most of what templates hold. It leaves off at the
-// first part that is another: a count by an argument, a name or a star, the word `_`, whitespace, a closing brace that is missing. `told` tells most of these.
+// first part that is another: a count by an argument, a name or a star, a dot with no count behind it, a number of five digits, `x?`, `r#`, the word `_`, whitespace, a closing
+// brace that is missing. `told` tells most of these.
 use frame::Frame;
 use frame::TextPlace;
 use placeholder::Align;
@@ -33,7 +34,7 @@ ghost use Rattle.words.specs.Layout.{specWords, argumentWords};
 ghost use Rattle.told.specs.Told.{Put, Flawless};
 ghost use Rattle.flawless.specs.Closed.{Ends, SpecEnds};
 
-// The place of an argument. A raw name and the word `_` are not told.
+// The place of an argument. `r` with a `#` after it and the word `_` are not told; both are looked for only where a word is one byte long.
 fn place(text: &[u8], at: usize) -> PartTold
     requires { ⌜ Room (now text) at ⌝ }
     ensures { λ r. ⌜ PlaceTold (now (text .entry)) at r × (r .blank ≡ false) ⌝ }

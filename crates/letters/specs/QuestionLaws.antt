@@ -54,30 +54,26 @@ frequent-starts : (c : ℕ) → member frequent c ≡ true → isStart c ≡ tru
 unfolding isStart
 frequent-starts c m = inside-holds frequent start frequent-in-start c m
 
--- each of these ranges by its bounds: Latin letters, Greek and Cyrillic letters, Han characters
+-- each of these ranges by its number
+pub frequent-range : (k c : ℕ) → k < pairs frequent → loAt frequent k ≤ c → c ≤ hiAt frequent k → isStart c ≡ true
+frequent-range k c h l u = frequent-starts c (found frequent c k h l u)
+
+-- two that a number stands between: Latin letters, Greek and Cyrillic letters
 pub latin-starts : (c : ℕ) → 0xC0 ≤ c → c < 0xF8 → (c ≡ 0xD7 → ⊥) → (c ≡ 0xF7 → ⊥) → isStart c ≡ true
 unfolding frequent pairs loAt hiAt
 latin-starts c l u m n = go (ltb c 0xD7) refl
   where
     go : (x : Bool) → ltb c 0xD7 ≡ x → isStart c ≡ true
-    go true e = frequent-starts c (found frequent c 0 (omega arith) l (omega (arith, ltb-true c 0xD7 e)))
-    go false e = frequent-starts c (found frequent c 1 (omega arith) (omega (arith, ltb-false c 0xD7 e, m)) (omega (arith, n)))
-
-pub further-starts : (c : ℕ) → 0xF8 ≤ c → c ≤ 0x2C1 → isStart c ≡ true
-unfolding frequent pairs loAt hiAt
-further-starts c l u = frequent-starts c (found frequent c 2 (omega arith) l u)
+    go true e = frequent-range 0 c (omega arith) l (omega (arith, ltb-true c 0xD7 e))
+    go false e = frequent-range 1 c (omega arith) (omega (arith, ltb-false c 0xD7 e, m)) (omega (arith, n))
 
 pub greek-starts : (c : ℕ) → 0x3A3 ≤ c → c ≤ 0x481 → (c ≡ 0x3F6 → ⊥) → isStart c ≡ true
 unfolding frequent pairs loAt hiAt
 greek-starts c l u m = go (ltb c 0x3F6) refl
   where
     go : (x : Bool) → ltb c 0x3F6 ≡ x → isStart c ≡ true
-    go true e = frequent-starts c (found frequent c 3 (omega arith) l (omega (arith, ltb-true c 0x3F6 e)))
-    go false e = frequent-starts c (found frequent c 4 (omega arith) (omega (arith, ltb-false c 0x3F6 e, m)) u)
-
-pub han-starts : (c : ℕ) → 0x4E00 ≤ c → c ≤ 0xA48C → isStart c ≡ true
-unfolding frequent pairs loAt hiAt
-han-starts c l u = frequent-starts c (found frequent c 5 (omega arith) l u)
+    go true e = frequent-range 3 c (omega arith) l (omega (arith, ltb-true c 0x3F6 e))
+    go false e = frequent-range 4 c (omega arith) (omega (arith, ltb-false c 0x3F6 e, m)) u
 
 -- no continuation is whitespace
 pub continue-no-space : (c : ℕ) → isContinue c ≡ true → isSpace c ≡ false

@@ -38,6 +38,9 @@ pub fn is_start(c: u32) -> bool
     if is_frequent(c) {
         return true;
     }
+    if in_script(c) {
+        return true;
+    }
     in_start(c)
 }
 
@@ -49,6 +52,9 @@ pub fn is_continue(c: u32) -> bool
         return ascii_continue(c as u8);
     }
     if is_frequent(c) {
+        return true;
+    }
+    if in_script(c) {
         return true;
     }
     in_continue(c)
@@ -132,6 +138,56 @@ fn in_space(c: u32) -> bool
     ensures { λ r. ⌜ r ≡ isSpace c ⌝ }
 {
     in_table(&SPACE, c)
+}
+
+// Whether a character is among the letters of other scripts that stand in one range: Hebrew and Arabic, Devanagari and Thai, Georgian and the rest of Latin, Kana
+// and Hangul. No table is stored for these either.
+fn in_script(c: u32) -> bool
+    ensures { λ r. ⌜ (r ≡ true → isStart c ≡ true) ⌝ }
+{
+    if c < 0x1000 {
+        return in_script_below_1000(c);
+    }
+    if c < 0x3041 {
+        if c <= 0x10FA {
+            return 0x10D0 <= c;
+        }
+        if c < 0x1E00 {
+            return false;
+        }
+        return c <= 0x1F15;
+    }
+    if c <= 0x3096 {
+        return true;
+    }
+    if c <= 0x30FA {
+        return 0x30A1 <= c;
+    }
+    if c < 0xAC00 {
+        return false;
+    }
+    c <= 0xD7A3
+}
+
+fn in_script_below_1000(c: u32) -> bool
+    ensures { λ r. ⌜ (r ≡ true → isStart c ≡ true) ⌝ }
+{
+    if c < 0x900 {
+        if c <= 0x5EA {
+            return 0x5D0 <= c;
+        }
+        if c < 0x620 {
+            return false;
+        }
+        return c <= 0x64A;
+    }
+    if c <= 0x939 {
+        return 0x904 <= c;
+    }
+    if c < 0xE01 {
+        return false;
+    }
+    c <= 0xE30
 }
 
 // Where the whitespace from `at` ends. An ASCII character above the space ends it at once.

@@ -26,7 +26,7 @@ pub const SPACE: [u32; 20] = [
 ];
 
 // Identifier start, `_` or XID_Start: 692 closed ranges, low and high bound in turn.
-// In parts: each has the ranges below the code in its name that no part before it has.
+// In parts: each has the ranges below the code in its name that no part before it has, and the last the others.
 pub const START_BELOW_530: [u32; 48] = [
     0x41,
     0x5A,
@@ -1472,7 +1472,7 @@ pub const START_REST: [u32; 126] = [
 ];
 
 // Identifier continuation, XID_Continue: 806 closed ranges, low and high bound in turn.
-// In parts: each has the ranges below the code in its name that no part before it has.
+// In parts: each has the ranges below the code in its name that no part before it has, and the last the others.
 pub const CONTINUE_BELOW_530: [u32; 52] = [
     0x30,
     0x39,

@@ -1,5 +1,5 @@
 -- Bytes tell characters: an ASCII character, a digit, an align, a word, a run. Rests on `scan`'s laws of its leaves and `utf8`'s of characters.
-use Prim.Native.Nat.{ℕ, zero, suc, _+_, _≤_, _<_}
+use Prim.Native.Nat.{ℕ, _+_, _≤_, _<_}
 use mathlib.Core.Path.{_≡_, refl, sym, _∙_, ap}
 use mathlib.Core.Bool.{Bool, true, false, true≢false}
 use mathlib.Core.List.{List, [], _∷_}
@@ -12,16 +12,16 @@ use Rattle.utf8.specs.ChoiceLaws.{not-so, within-low, within-high}
 use Rattle.utf8.specs.Utf8.{peekAt}
 use Rattle.utf8.specs.Chars.{Ch, ch, charsFrom, charsOf, takeWhile, runEnd}
 use Rattle.utf8.specs.CharLaws.{Peeked, peeked, ended, past-end, before-more, before-past, ascii-stop, ascii-char, char-ascii, first, none-left, run-more, run-stop, run-end}
-use Rattle.letters.specs.Ascii.{asciiStart, asciiContinue}
-use Rattle.letters.specs.AsciiLaws.{ascii-start, ascii-continue, above-space}
-use Rattle.letters.specs.Questions.{isSpace, isContinue}
+use Rattle.letters.specs.Ascii.{asciiStart}
+use Rattle.letters.specs.AsciiLaws.{above-space}
+use Rattle.letters.specs.Questions.{isSpace}
 use Rattle.utf8.specs.declared.Seen.{Seen}
 use Rattle.utf8.specs.declared.Seen.the-variants.{Char, End}
 use Rattle.frame.specs.Places.{place, rangeOf}
 use Rattle.scan.specs.Characters.{isAt, consumed}
 use Rattle.scan.specs.Words.{isDigit, digitsAt, numberFrom, numberRead, wordEnd, wordFrom, isUnderscore, wordRead}
 use Rattle.scan.specs.ScanLaws.{run-in, word-in, is-at-byte, is-at-end}
-use Rattle.scan.specs.AsciiWords.{byte-in, start-in, word-start}
+use Rattle.scan.specs.AsciiWordLaws.{byte-in, start-in, word-start}
 use Rattle.scan.specs.declared.Flaw.{Flaw}
 use Rattle.scan.specs.declared.Number.{Number}
 use Rattle.placeholder.specs.Parts.{isAlign}

@@ -17,7 +17,7 @@ use Rattle.scan.specs.declared.Number.{Number}
 use Rattle.scan.specs.declared.NumberRead.{NumberRead}
 use Rattle.scan.specs.declared.Numeral.{Numeral}
 use Rattle.quick.specs.PartsTold.{Room, part, NumberTold}
-use Rattle.scan.specs.AsciiWords.{byte-in}
+use Rattle.scan.specs.AsciiWordLaws.{byte-in}
 use Rattle.quick.proofs.Bytes.{digit-range, digit-seen, no-digit}
 
 -- ten to the power k

@@ -31,8 +31,8 @@ use Rattle.placeholder.specs.declared.position.Found.{Found}
 use Rattle.quick.specs.declared.PartTold.{PartTold}
 use Rattle.quick.specs.declared.TypeTold.{TypeTold}
 use Rattle.quick.specs.Tellings.{foundOf, countOf, widthOf, precisionOf, countSpan, backOf, fillOf, typeSpan, afterStar, blankFlaw}
-use Rattle.quick.specs.PartsTold.{Known, part, endsByte, alignByte, signByte, blankWord, rawWord, signOf, debugOf, typeWord, NumberTold, PlaceTold, FillTold, CountGiven, WidthTold, PrecisionTold, TypeKnown}
-use Rattle.scan.specs.AsciiWords.{byte-in}
+use Rattle.quick.specs.PartsTold.{Known, part, endsByte, alignByte, signByte, blankWord, rawWord, signOf, typeWord, NumberTold, PlaceTold, FillTold, CountGiven, WidthTold, PrecisionTold, TypeKnown}
+use Rattle.scan.specs.AsciiWordLaws.{byte-in}
 use Rattle.scan.specs.ReachLaws.{few-chars}
 use Rattle.quick.proofs.Bytes.{at-byte, has, lacks, align-byte, no-number, word-told}
 
@@ -84,6 +84,10 @@ implied n p = go (eqb (p .tag) 0) (eqb (p .tag) 1) (eqb (p .tag) 2)
     go false true c = refl
     go false false true = refl
     go false false false = refl
+
+-- a type that is an `x` or an `X`, the byte given, with the `?` after it
+abbrev pub debugOf : ℕ → ℕ → TypeTold
+debugOf b at = record { ok = true; hex = pick (eqb b 0x78) Hex.Lower Hex.Upper; word = false; blank = false; from = at + 1; end = at + 2 }
 
 -- no more characters are given back than the text has bytes
 pub back-few : (t : List ℕ) (from word : ℕ) (p : PartTold) → backOf t from word p ≤ length t

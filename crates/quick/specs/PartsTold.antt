@@ -57,17 +57,13 @@ endsByte b = pick (eqb b 0x7D) true (eqb b 0x20)
 unfoldable pub blankWord : ℕ → ℕ → ℕ → Bool
 blankWord b at end = both (eqb b 0x5F) (eqb end (at + 1))
 
--- and is the `r` of a raw name: a `#` follows it
+-- a word with a first byte, between two bytes of the text, is `r` with a `#` after it, as a raw name begins
 unfoldable pub rawWord : List ℕ → ℕ → ℕ → ℕ → Bool
 rawWord t b at end = both (eqb b 0x72) (both (eqb end (at + 1)) (eqb (getD t end 0) 0x23))
 
 -- a type that is a sign, after which a spec is at its end
 abbrev pub signOf : List ℕ → ℕ → TypeTold
 signOf t at = record { ok = endsByte (getD t (at + 1) 0); hex = Hex.Absent; word = false; blank = false; from = at; end = at + 1 }
-
--- one that is an `x` or an `X`, the byte given, with the `?` after it
-abbrev pub debugOf : ℕ → ℕ → TypeTold
-debugOf b at = record { ok = true; hex = pick (eqb b 0x78) Hex.Lower Hex.Upper; word = false; blank = false; from = at + 1; end = at + 2 }
 
 -- one that is a word with a first byte, between two bytes; none where they are the same
 abbrev pub typeWord : ℕ → ℕ → ℕ → TypeTold

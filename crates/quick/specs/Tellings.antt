@@ -53,14 +53,15 @@ countOf n p =
     (pick (eqb (p .tag) 2) (Count.ByArgument (Numeral.Within (p .value)))
     (Count.ByStar n)))
 
--- a width that starts at a byte: a word with `$` is a name, which ends before it
-unfoldable pub widthOf : List ℕ → Frame → ℕ → ℕ → PartTold → Count
-widthOf t f n from p =
-    pick (eqb (p .tag) 4)
-    (Count.ByName (rangeOf (place from) (place (p .end - 1))) (spanBetween t f (place from) (place (p .end - 1))))
-    (countOf n p)
+-- a count that is a name from a byte on: its word, whose `$` ends at another
+abbrev pub nameOf : List ℕ → Frame → ℕ → ℕ → Count
+nameOf t f from end = Count.ByName (rangeOf (place from) (place (end - 1))) (spanBetween t f (place from) (place (end - 1)))
 
--- a precision whose dot stands at a byte: behind it what a width may be, or a star, or nothing
+-- a width that starts at a byte
+unfoldable pub widthOf : List ℕ → Frame → ℕ → ℕ → PartTold → Count
+widthOf t f n from p = pick (eqb (p .tag) 4) (nameOf t f from (p .end)) (countOf n p)
+
+-- a precision whose dot stands at a byte: behind it what a width may be, or a star, or no count
 unfoldable pub precisionOf : List ℕ → Frame → ℕ → ℕ → PartTold → Count
 precisionOf t f n dot p = pick (eqb (p .tag) 5) Count.Implied (widthOf t f n (dot + 1) p)
 
@@ -68,7 +69,7 @@ precisionOf t f n dot p = pick (eqb (p .tag) 5) Count.Implied (widthOf t f n (do
 unfoldable pub countSpan : List ℕ → Frame → ℕ → PartTold → MaybeSpan
 countSpan t f from p = pick (eqb (p .tag) 0) MaybeSpan.Absent (MaybeSpan.Present (spanBetween t f (place from) (place (p .end))))
 
--- how many characters of the word between two bytes are given back where a width was looked for: all of them where it is none
+-- how many characters of the word between two bytes are given back where a count was looked for: all of them where it is none
 unfoldable pub backOf : List ℕ → ℕ → ℕ → PartTold → ℕ
 backOf t from word p = pick (eqb (p .tag) 0) (length (charsOf t from word)) 0
 

@@ -8,7 +8,6 @@ use utf8::Seen;
 ghost use mathlib.Core.Path.{_≡_};
 ghost use mathlib.Core.Bool.{true, false};
 ghost use Prim.Native.Nat.{_+_, _≤_};
-ghost use lib.Dec.{ltb};
 ghost use lib.ListN.{getD};
 ghost use Rattle.frame.specs.Places.{place};
 ghost use Rattle.utf8.specs.Chars.{runEnd};
@@ -19,7 +18,7 @@ ghost use Rattle.quick.specs.Tellings.{backOf};
 ghost use Rattle.quick.specs.PartsTold.{Room, part, alignByte, signByte, endsByte, blankWord, rawWord, signOf, typeWord, typeNone, hintOf, onwardOf, AsciiRun, WordKnown, NumberTold, PlaceTold, FillTold, CountGiven, WidthTold, PrecisionTold, TypeKnown, AllTold, NoSpec, LeftTold};
 
 // A place or a count. Tag 0: nothing; 1: a number; 2: of a place a word, of a count a number with `$`; 3: a star; 4: a word with `$`; 5: a dot
-// alone; 9: it is not told. `blank`: the word `_` stands there, which is a fault.
+// with no count behind it; 9: it is not told. `blank`: the word `_` stands there, which is a fault.
 pub struct PartTold {
     pub tag: u8,
     pub value: u16,
@@ -224,7 +223,7 @@ pub fn word_end(text: &[u8], at: usize) -> usize
     word.end
 }
 
-// How many characters of the word at `from` are given back: all of them, where it was read for a width and is none.
+// How many characters of the word at `from` are given back: all of them, where it was read for a count and is none.
 pub fn given_back(text: &[u8], from: usize, word: WordTold, width: PartTold) -> usize
     requires { ⌜ WordKnown (now text) from word ⌝ }
     ensures { λ r. ⌜ r ≡ backOf (now (text .entry)) from (word .end) width ⌝ }
@@ -238,7 +237,7 @@ pub fn given_back(text: &[u8], from: usize, word: WordTold, width: PartTold) -> 
     utf8::chars_between(whole(text), from, word.end)
 }
 
-// The place of an argument. A raw name is not told.
+// The place of an argument. `r` with a `#` after it is not told.
 pub fn place(text: &[u8], at: usize) -> PartTold
     requires { ⌜ Room (now text) at ⌝ }
     ensures { λ r. ⌜ PlaceTold (now (text .entry)) at r ⌝ }
@@ -262,7 +261,7 @@ pub fn place(text: &[u8], at: usize) -> PartTold
     }
 }
 
-// Whether a word, whose first byte is given, is the `r` of a raw name: a `#` follows it.
+// Whether a word, whose first byte is given, is `r` with a `#` after it, as a raw name begins.
 pub fn is_raw(text: &[u8], b: u8, at: usize, end: usize) -> bool
     requires { ⌜ at ≤ 65535 ⌝ }
     ensures { λ r. ⌜ r ≡ rawWord (now (text .entry)) b at end ⌝ }
@@ -445,7 +444,7 @@ pub fn sign_type(text: &[u8], at: usize) -> TypeTold
 }
 
 // The same, or an `x` or `X` with the `?` after it; the sign is given.
-fn debug_type(text: &[u8], b: u8, at: usize) -> TypeTold
+fn any_sign_type(text: &[u8], b: u8, at: usize) -> TypeTold
     requires { ⌜ Room (now text) (at + 1) × (b ≡ getD (now text) at 0) × (signByte b ≡ true) ⌝ }
     ensures { λ r. ⌜ TypeKnown (now (text .entry)) at r ⌝ }
 {
@@ -524,7 +523,7 @@ pub fn type_at(text: &[u8], at: usize, from: usize, word: usize) -> TypeTold
 {
     let b = utf8::byte(text, at);
     if is_type_sign(b) {
-        return debug_type(text, b, at);
+        return any_sign_type(text, b, at);
     }
     let end = if at == from { word } else { word_end(text, at) };
     word_type(b, at, end)

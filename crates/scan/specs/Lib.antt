@@ -5,6 +5,6 @@ pub mod Words
 pub mod Wrapping
 pub mod Counts
 pub mod ScanLaws
-pub mod AsciiWords
+pub mod AsciiWordLaws
 pub mod ReachLaws
 pub mod Examples

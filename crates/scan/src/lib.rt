@@ -257,7 +257,7 @@ pub fn span_across(text: &[u8], frame: Frame, first: TextPlace, last: TextPlace)
     Span { start, end }
 }
 
-// Where the word at a place ends. One in ASCII is passed in place, and only one with other letters takes a call.
+// Where the word at a place ends. One in ASCII is passed by its bytes; one with other letters goes on from there.
 pub fn word_end(text: &[u8], at: TextPlace) -> TextPlace
     ensures { λ r. ⌜ r ≡ wordEnd (now (text .entry)) at ⌝ }
 {
@@ -271,7 +271,7 @@ pub fn word_end(text: &[u8], at: TextPlace) -> TextPlace
     }
     let end = letters::ascii_continue_end(text, i + 1);
     if 0x80 <= utf8::byte(text, end) {
-        return word_from(text, at, i);
+        return word_from(text, at, end);
     }
     TextPlace(end)
 }

@@ -25,7 +25,7 @@ use Rattle.reading.specs.Steps.{stateOf}
 use Rattle.reading.specs.Wants.{larger, placeWants, countWants, argumentWants}
 use Rattle.laws.specs.WantLaws.{larger-left, larger-right, larger-least, larger-none, larger-assoc}
 use Rattle.reading.specs.declared.State.{State}
-use Rattle.quick.specs.Tellings.{foundOf, countOf, widthOf, precisionOf, countSpan, fillOf, typeSpan, afterStar, specOf, argumentOf, nextOf, Tells}
+use Rattle.quick.specs.Tellings.{foundOf, countOf, nameOf, widthOf, precisionOf, countSpan, fillOf, typeSpan, afterStar, specOf, argumentOf, nextOf, Tells}
 use Rattle.quick.specs.PartsTold.{part}
 use Rattle.quick.specs.declared.TypeTold.{TypeTold}
 use Rattle.quick.specs.declared.PartTold.{PartTold}
@@ -278,8 +278,7 @@ unfolding widthOf widthWants pick
 width-wants t f n from p = go (eqb (p .tag) 4)
   where
     go : (b : Bool) →
-        countWants (pick b (Count.ByName (rangeOf (place from) (place (p .end - 1))) (spanBetween t f (place from) (place (p .end - 1)))) (countOf n p)) ≡
-        pick b 0 (countWants (countOf n p))
+        countWants (pick b (nameOf t f from (p .end)) (countOf n p)) ≡ pick b 0 (countWants (countOf n p))
     go true = refl
     go false = refl
 

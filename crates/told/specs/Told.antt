@@ -1,5 +1,5 @@
 -- What is told of a placeholder, as it is written, and where reading then stands. Rests on words' Layout, quick's Tellings and reading's Wants.
-use Prim.Native.Nat.{ℕ, _+_, _-_, _≤_}
+use Prim.Native.Nat.{ℕ, _+_, _≤_}
 use mathlib.Core.Path.{_≡_}
 use mathlib.Core.Bool.{true, false}
 use mathlib.Core.List.{List, _++_}
@@ -9,21 +9,20 @@ use Rattle.utf8.specs.Choice.{pick}
 use Rattle.frame.specs.Places.{place, rangeOf}
 use Rattle.frame.specs.Spans.{spanBetween}
 use Rattle.frame.specs.declared.Frame.{Frame}
-use Rattle.scan.specs.declared.Count.{Count}
 use Rattle.placeholder.specs.Arguments.{resolved}
 use Rattle.placeholder.specs.declared.MaybeSpan.{MaybeSpan}
 use Rattle.placeholder.specs.declared.Place.{Place}
 use Rattle.reading.specs.Steps.{stateOf}
 use Rattle.reading.specs.Wants.{larger, placeWants, countWants}
 use Rattle.reading.specs.declared.State.{State}
-use Rattle.quick.specs.Tellings.{foundOf, countOf, typeSpan, afterStar, nextOf}
+use Rattle.quick.specs.Tellings.{foundOf, countOf, nameOf, typeSpan, afterStar, nextOf}
 use Rattle.quick.specs.declared.PartTold.{PartTold}
 use Rattle.quick.specs.declared.TypeTold.{TypeTold}
 use Rattle.quick.specs.declared.PlaceholderTold.{PlaceholderTold}
 use Rattle.words.specs.Laid.{laid}
 use Rattle.words.specs.Layout.{lowOf, four, hexOf, headWords, placeTag, placeWords, countWords, spanWords}
 
--- WHAT IS TOLD: its tags are the layout's, and it stands within the text
+-- WHAT IS TOLD: its tags have a meaning (a precision's 5, a dot with no count behind it, is not the layout's), and it stands within the text
 pub record Sound (t : List ℕ) (x : PlaceholderTold) : Type 0 where
   pub placed : x .place .tag ≤ 2
   pub wide : x .spec .width .tag ≤ 4
@@ -42,10 +41,7 @@ toldHead t f brace x n =
 
 -- a count that is a name with its `$`, and starts at a byte of its own
 unfoldable pub nameWords : List ℕ → Frame → ℕ → ℕ → ℕ → List ℕ
-nameWords t f start from end =
-    countWords
-    (Count.ByName (rangeOf (place from) (place (end - 1))) (spanBetween t f (place from) (place (end - 1))))
-    (MaybeSpan.Present (spanBetween t f (place start) (place end)))
+nameWords t f start from end = countWords (nameOf t f from end) (MaybeSpan.Present (spanBetween t f (place start) (place end)))
 
 -- a type
 unfoldable pub typeWords : List ℕ → Frame → TypeTold → List ℕ
@@ -55,7 +51,7 @@ typeWords t f k = four (lowOf (k .from)) (lowOf (k .end)) (hexOf (k .hex)) 0 ++ 
 unfoldable pub widthWants : ℕ → PartTold → ℕ
 widthWants n p = pick (eqb (p .tag) 4) 0 (countWants (countOf n p))
 
--- and a precision: a dot alone wants none either
+-- and a precision: a dot with no count behind it wants none either
 unfoldable pub precisionWants : ℕ → PartTold → ℕ
 precisionWants n p = pick (eqb (p .tag) 5) 0 (widthWants n p)
 

@@ -179,7 +179,7 @@ pub fn put_told_width(
     put_told_count(out, k, text, frame, from, part, next);
 }
 
-// The precision of a spec, whose dot stands at `dot`: one that is a dot alone has a span and no number.
+// The precision of a spec, whose dot stands at `dot`: a dot with no count behind it has a span and no number.
 pub fn put_told_precision(
     out: &mut [u32],
     k: usize,
@@ -283,7 +283,7 @@ fn with_width(part: PartTold, next: usize, figure: usize) -> usize
     larger_of(figure, count_wants(part, next))
 }
 
-// The same of a precision: a dot alone wants none.
+// The same of a precision: a dot with no count behind it wants none.
 fn with_precision(part: PartTold, next: usize, figure: usize) -> usize
     requires { ⌜ next < 0xFFFFF ⌝ }
     ensures { λ r. ⌜ r ≡ larger figure (precisionWants next part) ⌝ }

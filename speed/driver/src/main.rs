@@ -35,7 +35,7 @@ fn quickest<const N: usize>(rounds: usize, calls: usize, mut each: [&mut dyn FnM
     best
 }
 
-/// What a text took each; {fmt} with a list of its own for each text, and with one that is kept.
+/// What each took for a text; {fmt} with a list of its own for each text, and with one that is kept.
 struct Times {
     ours: f64,
     rust: f64,
@@ -167,7 +167,7 @@ fn seldom_texts(reader: &mut Reader) {
 fn other_calls(reader: &mut Reader) {
     println!("| other calls, ns a byte | this | the Rust | the Rust : this |");
     println!("|---|---|---|---|");
-    let text = &texts::large(SIZE)[0];
+    let text = texts::template(SIZE);
     let bytes = &text.bytes[..];
     let string = std::str::from_utf8(bytes).expect("the text is UTF-8");
     let pieces = ours::count(bytes)[2];
@@ -197,7 +197,7 @@ fn other_calls(reader: &mut Reader) {
             },
         ],
     );
-    let rows = [("template text counted", bytes, counted, rust), ("template text, lists to measure", bytes, to_measure, rust), (asm.name, &asm.bytes, asm_read, asm_rust)];
+    let rows = [("template text counted", bytes, counted, rust), ("template text, lists with no room to spare", bytes, to_measure, rust), (asm.name, &asm.bytes, asm_read, asm_rust)];
     for (name, bytes, ours, rust) in rows {
         let scale = bytes.len() as f64;
         println!("| {name} | {:.2} | {:.2} | {:.2} |", ours / scale, rust / scale, rust / ours);

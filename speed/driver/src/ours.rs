@@ -60,7 +60,7 @@ pub fn verdict(text: &[u8]) -> [usize; 4] {
     answer
 }
 
-/// How many records each list of a Format text without style or snippet needs.
+/// The eight numbers of the answer to a count of a Format text without style or snippet: the third is how many pieces it has.
 pub fn count(text: &[u8]) -> [usize; 8] {
     let mut answer = [0; 8];
     // SAFETY: each pointer goes with its own length, and the answer overlaps nothing.
@@ -90,7 +90,7 @@ impl Reader {
         self.read_as(text, 0)
     }
 
-    /// Reads a text of a mode.
+    /// Reads a text of a mode, without style or snippet.
     pub fn read_as(&mut self, text: &[u8], mode: u8) -> (u8, usize, usize) {
         let mut none = [0usize; 2];
         let mut nothing = [0usize; 2];

@@ -11,11 +11,16 @@ fn repeated(part: &str, size: usize) -> Vec<u8> {
     part.repeat(size / part.len()).into_bytes()
 }
 
+/// Template text.
+pub fn template(size: usize) -> Text {
+    Text { name: "template text", bytes: repeated("Sample {name}: {value:>10.3} {unit} (range {low:.2} to {high:.2})\n", size) }
+}
+
 /// The large texts, of about so many bytes. Front inserts take the Rust time that grows with the square of the text.
 pub fn large(size: usize) -> Vec<Text> {
     let text = |name, part| Text { name, bytes: repeated(part, size) };
     vec![
-        text("template text", "Sample {name}: {value:>10.3} {unit} (range {low:.2} to {high:.2})\n"),
+        template(size),
         text("literal text", "The sample was stored at room temperature and read twice, as the method asks.\n"),
         text("ASCII names", "{temperature}{pressure_left}{volume}"),
         text("names with ø and 日", "{größe}{målning}{温度計}{øre}"),

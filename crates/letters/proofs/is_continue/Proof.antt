@@ -1,4 +1,4 @@
--- `letters::is_continue` meets its contract: below 0x80 the byte tells; what the frequent ranges have is a start, so a continuation; else the
+-- `letters::is_continue` meets its contract: below 0x80 the byte tells; what the ranges of frequent letters have is a start, so a continuation; else the
 -- table is asked. Assumes nothing.
 use borrow.Author.Needs.{needs}
 use mathlib.Core.Path.{sym, _∙_}
@@ -22,11 +22,17 @@ is-frequent-requires c κs = search needs
 returns-2 : tie.Need-returns-2
 returns-2 c = sym (start-continues _ (c .before .is-frequent .ensures (c .if2 .taken)))
 
+in-script-requires : tie.Need-in-script-requires
+in-script-requires c κs = search needs
+
+returns-3 : tie.Need-returns-3
+returns-3 c = sym (start-continues _ (c .before .in-script .ensures (c .if3 .taken)))
+
 in-continue-requires : tie.Need-in-continue-requires
 in-continue-requires c κs = search needs
 
-returns-3 : tie.Need-returns-3
-returns-3 c = c .in-continue .ensures
+returns-4 : tie.Need-returns-4
+returns-4 c = c .in-continue .ensures
 
 pub is-continue-spec : {M : Type 1} → statement M
 is-continue-spec =
@@ -37,5 +43,7 @@ is-continue-spec =
     returns
     is-frequent-requires
     returns-2
+    in-script-requires
+    returns-3
     in-continue-requires
-    returns-3)
+    returns-4)

@@ -2,15 +2,20 @@
 use mathlib.Core.Path.{sym}
 use mathlib.Core.Bool.{true≢false}
 use borrow.Author.Tests.{leb-true, eqb-false, not-true}
-use Rattle.letters.specs.QuestionLaws.{latin-starts, further-starts, greek-starts, han-starts}
+use native.Mathlib.Omega.{arith}
+use Rattle.letters.specs.TableLaws.{loAt, hiAt, pairs}
+use Rattle.letters.specs.Frequent.{frequent}
+use Rattle.letters.specs.QuestionLaws.{frequent-range, latin-starts, greek-starts}
 use Rattle.letters.proofs.is_frequent.Statement.{statement}
 use Rattle.letters.proofs.is_frequent.Tie as tie
 
 returns : tie.Need-returns
-returns c = λ _. further-starts _ (c .before .if1 .taken) (c .if2 .taken)
+unfolding frequent pairs loAt hiAt
+returns c = λ _. frequent-range 2 _ (omega arith) (c .before .if1 .taken) (c .if2 .taken)
 
 returns-2 : tie.Need-returns-2
-returns-2 c = λ y. han-starts _ (c .if3 .taken) (leb-true _ _ y)
+unfolding frequent pairs loAt hiAt
+returns-2 c = λ y. frequent-range 13 _ (omega arith) (c .if3 .taken) (leb-true _ _ y)
 
 returns-3 : tie.Need-returns-3
 returns-3 c = λ y. absurd (true≢false (sym y))

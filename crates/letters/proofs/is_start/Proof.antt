@@ -1,4 +1,4 @@
--- `letters::is_start` meets its contract: below 0x80 the byte tells; what the frequent ranges have is a start; else the
+-- `letters::is_start` meets its contract: below 0x80 the byte tells; what the ranges of frequent letters have is a start; else the
 -- table is asked. Assumes nothing.
 use borrow.Author.Needs.{needs}
 use mathlib.Core.Path.{sym, _∙_}
@@ -21,11 +21,17 @@ is-frequent-requires c κs = search needs
 returns-2 : tie.Need-returns-2
 returns-2 c = sym (c .before .is-frequent .ensures (c .if2 .taken))
 
+in-script-requires : tie.Need-in-script-requires
+in-script-requires c κs = search needs
+
+returns-3 : tie.Need-returns-3
+returns-3 c = sym (c .before .in-script .ensures (c .if3 .taken))
+
 in-start-requires : tie.Need-in-start-requires
 in-start-requires c κs = search needs
 
-returns-3 : tie.Need-returns-3
-returns-3 c = c .in-start .ensures
+returns-4 : tie.Need-returns-4
+returns-4 c = c .in-start .ensures
 
 pub is-start-spec : {M : Type 1} → statement M
 is-start-spec =
@@ -36,5 +42,7 @@ is-start-spec =
     returns
     is-frequent-requires
     returns-2
+    in-script-requires
+    returns-3
     in-start-requires
-    returns-3)
+    returns-4)

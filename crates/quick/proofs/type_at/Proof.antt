@@ -14,14 +14,14 @@ byte-requires c κs = search needs
 is-type-sign-requires : tie.Need-is-type-sign-requires
 is-type-sign-requires c κs = search needs
 
-debug-type-requires : tie.Need-debug-type-requires
-debug-type-requires c κs =
+any-sign-type-requires : tie.Need-any-sign-type-requires
+any-sign-type-requires c κs =
     let b = c .before .before in
     let y = sym (c .before .is-type-sign .ensures) ∙ c .if1 .taken in
     (room-past (b .before .before .pre .0) (sym (b .byte .ensures)) (sign-some _ y), b .byte .ensures, y)
 
 returns : tie.Need-returns
-returns c = c .debug-type .ensures
+returns c = c .any-sign-type .ensures
 
 word-end-requires : tie.Need-word-end-requires
 word-end-requires c κs = search needs
@@ -47,7 +47,7 @@ type-at-spec =
     (tie.spec
     byte-requires
     is-type-sign-requires
-    debug-type-requires
+    any-sign-type-requires
     returns
     word-end-requires
     word-type-requires

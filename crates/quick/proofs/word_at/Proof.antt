@@ -11,7 +11,7 @@ use Rattle.frame.specs.Places.{place}
 use Rattle.scan.specs.Words.{wordEnd, wordFrom}
 use Rattle.scan.specs.ScanLaws.{word-on}
 use Rattle.frame.specs.declared.TextPlace.{TextPlace}
-use Rattle.scan.specs.AsciiWords.{word-start, word-none, continue-stop}
+use Rattle.scan.specs.AsciiWordLaws.{word-start, word-none, continue-stop}
 use Rattle.quick.proofs.Bytes.{word-anew, word-further, no-chars, start-chars}
 use Rattle.quick.proofs.word_at.Statement.{statement}
 use Rattle.quick.proofs.word_at.Tie as tie

@@ -2,13 +2,16 @@
 -- where a letter is another, of the word nothing was passed.
 use borrow.Author.Needs.{needs}
 use borrow.Author.Tests.{le-ltb, not-true, not-false}
-use mathlib.Core.Path.{_≡_, sym, _∙_, ap}
+use lib.Dec.{ltb}
+use mathlib.Core.Path.{_≡_, refl, sym, _∙_, ap}
 use native.Mathlib.Omega.{arith}
 use denote.Ref.{now}
 use Rattle.utf8.specs.Choice.{pick}
+use Rattle.utf8.specs.ChoiceLaws.{pick-elim}
 use Rattle.frame.specs.Places.{place}
-use Rattle.scan.specs.Words.{wordFrom}
-use Rattle.scan.specs.AsciiWords.{byte-in, start-in, word-start, word-none, continue-stop}
+use Rattle.frame.specs.declared.TextPlace.{TextPlace}
+use Rattle.scan.specs.Words.{wordEnd, wordFrom}
+use Rattle.scan.specs.AsciiWordLaws.{byte-in, start-in, word-start, word-none, continue-stop}
 use Rattle.scan.proofs.word_end.Statement.{statement}
 use Rattle.scan.proofs.word_end.Tie as tie
 
@@ -48,10 +51,18 @@ word-from-requires-2 : tie.Need-word-from-requires-2
 word-from-requires-2 c κs = search needs
 
 returns-3 : tie.Need-returns-3
-unfolding wordFrom pick
+unfolding wordFrom
 returns-3 c =
-    let i = c .before .before .before .before .before .before .before .before .before .args .at .0 in
-    c .word-from2 .ensures ∙ simp (le-ltb i i (omega arith))
+    let w = c .before .before .before in
+    let b = w .before .before .before .before in
+    let t = now (b .before .before .args .text) in
+    let at = b .before .before .args .at in
+    let y = sym (w .before .before .ascii-start .ensures) ∙ not-false _ (w .before .if2 .left) in
+    let end = w .ascii-continue-end .result in
+    c .word-from2 .ensures
+    ∙ pick-elim (λ (p : TextPlace). p ≡ wordEnd t at) (ltb (at .0) end)
+    (λ _. ap place (w .ascii-continue-end .ensures .0 ∙ sym (word-start t (at .0) (b .byte .ensures) (omega (arith, w .before .before .before .if1 .left)) y)))
+    (λ _. refl)
 
 returns-4 : tie.Need-returns-4
 returns-4 c =

@@ -66,7 +66,7 @@ fn constants(tables: &[Table]) -> String {
     for table in tables {
         text += &format!("\n// {}\n", table.comment);
         if !table.bounds.is_empty() {
-            text += "// In parts: each has the ranges below the code in its name that no part before it has.\n";
+            text += "// In parts: each has the ranges below the code in its name that no part before it has, and the last the others.\n";
         }
         text += &table.parts().iter().map(constant).collect::<Vec<_>>().join("\n");
     }

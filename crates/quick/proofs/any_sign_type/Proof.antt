@@ -1,4 +1,4 @@
--- `quick::debug_type` meets its contract: a sign alone, or one with the `?` after it.
+-- `quick::any_sign_type` meets its contract: a sign alone, or one with the `?` after it.
 use borrow.Author.Needs.{needs}
 use borrow.Author.Tests.{eq-eqb, ne-eqb}
 use lib.Dec.{eqb}
@@ -8,8 +8,8 @@ use Rattle.utf8.specs.Choice.{pick}
 use Rattle.placeholder.specs.declared.Hex.{Hex}
 use Rattle.quick.specs.PartsTold.{signByte}
 use Rattle.quick.proofs.Parts.{type-sign, type-hex}
-use Rattle.quick.proofs.debug_type.Statement.{statement}
-use Rattle.quick.proofs.debug_type.Tie as tie
+use Rattle.quick.proofs.any_sign_type.Statement.{statement}
+use Rattle.quick.proofs.any_sign_type.Tie as tie
 
 sign-type-requires : tie.Need-sign-type-requires
 sign-type-requires c κs = search needs
@@ -49,8 +49,8 @@ returns-3 c =
     rw (h, p .1)
     (type-hex (ap signByte (sym (p .1)) ∙ p .2) (λ q. c .before .before .before .if1 .left (p .1 ∙ q)) (sym (c .before .before .byte .ensures) ∙ c .before .if2 .left))
 
-pub debug-type-spec : {M : Type 1} → statement M
-debug-type-spec =
+pub any-sign-type-spec : {M : Type 1} → statement M
+any-sign-type-spec =
     tie.close
     (tie.spec
     sign-type-requires
