@@ -22,7 +22,7 @@ use Rattle.reading.specs.declared.Onward.{Onward}
 use Rattle.reading.specs.declared.Piece.{Piece}
 use Rattle.reading.specs.declared.State.{State}
 use Rattle.reading.specs.declared.Step.{Step}
-use Rattle.quick.specs.Tellings.{argumentOf, nextOf, toldRead, Tells}
+use Rattle.quick.specs.Tellings.{argumentOf, nextOf, toldRead, inMode, Tells}
 use Rattle.quick.specs.declared.PlaceholderTold.{PlaceholderTold}
 use Rattle.words.specs.Laid.{laid}
 use Rattle.words.specs.Layout.{argumentWords, pieceWords}
@@ -140,6 +140,6 @@ module _ (t : List ℕ) (f : Frame) (m : Mode) (s : State) where
         )
 
 -- and what is told is that placeholder
-pub step-told : (t : List ℕ) (f : Frame) (s : State) (x : PlaceholderTold) → s .at .0 < length t → getD t (s .at .0) 0 ≡ 0x7B → (getD t (s .at .0 + 1) 0 ≡ 0x7B → ⊥) →
-    Tells t (s .at .0 + 1) x → x .ok ≡ true → Step.Placeholder (toldRead t f (s .at .0) (s .next) x) ≡ stepAt t f Mode.Format s
-step-told t f s x h e n l y = sym (ap Step.Placeholder (l .read y f (s .at .0) (s .next) refl)) ∙ step-open t f Mode.Format s h e n
+pub step-told : (t : List ℕ) (f : Frame) (m : Mode) (s : State) (x : PlaceholderTold) → s .at .0 < length t → getD t (s .at .0) 0 ≡ 0x7B → (getD t (s .at .0 + 1) 0 ≡ 0x7B → ⊥) →
+    Tells t (s .at .0 + 1) x → x .ok ≡ true → inMode m (x .colon) ≡ true → Step.Placeholder (toldRead t f (s .at .0) (s .next) x) ≡ stepAt t f m s
+step-told t f m s x h e n l y z = sym (ap Step.Placeholder (l .read y m z f (s .at .0) (s .next) refl)) ∙ step-open t f m s h e n

@@ -46,17 +46,17 @@ room-again r e = record { pieces = omega (arith, r .pieces, e); errors = r .erro
 module _ (t : List ℕ) (f : Frame) (s : State) (h : s .at .0 < length t) (o : Open t Mode.Format (s .at .0)) {k : Extent} {ps es : List ℕ}
     (r : StepRoom (stepAt t f Mode.Format s) k ps es) where
   pub one-fits : 40 * k .pieces + 40 ≤ length ps
-  one-fits = open-fits t f s (k .pieces) ps h (o .brace) (o .alone) (r .pieces)
+  one-fits = open-fits t f Mode.Format s (k .pieces) ps h (o .brace) (o .alone) (r .pieces)
 
   module _ {x : PlaceholderTold} {ps₁ : List ℕ} (l : Tells t (s .at .0 + 1) x)
       (w : Put (x .ok ≡ true) (40 * k .pieces) 40 (argumentWords (argumentOf t f (s .at .0) (s .next) x)) ps ps₁) where
     -- what is not told is yet to be written
     pub open-tried : Tried t f Mode.Format s (k .pieces) ps ps₁
-    open-tried = record { left = own-piece t f s (k .pieces) ps h (o .brace) (o .alone) one-fits l w }
+    open-tried = record { left = own-piece t f Mode.Format s (k .pieces) ps h (o .brace) (o .alone) one-fits l w }
 
     module _ (y : x .ok ≡ true) where
       step : Step.Placeholder (toldRead t f (s .at .0) (s .next) x) ≡ stepAt t f Mode.Format s
-      step = step-told t f s x h (o .brace) (o .alone) l y
+      step = step-told t f Mode.Format s x h (o .brace) (o .alone) l y refl
 
       -- there is room for the records of what is told
       pub told-here : Room (notedBy k es) (noticed (k .pieces) (toldSlots t (s .at .0) x))

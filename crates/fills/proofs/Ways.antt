@@ -17,9 +17,7 @@ use Rattle.words.specs.Laid.{laid}
 use Rattle.words.specs.LaidLaws.{laid-length, laid-on, pieceWords-length}
 use Rattle.words.specs.Layout.{pieceWords}
 use Rattle.writing.proofs.Overlays.{laid-none, gather-length}
-use Rattle.fills.specs.declared.lane.Stopped.{Stopped}
 use Rattle.fills.specs.Lane.{Tried, Clear, Way, LaneRoom, LaneRan}
-use Rattle.fills.proofs.Passing.{tried-none}
 
 -- WHERE THE LANE STANDS: the steps so far are passed, and their pieces written
 pub record OnWay (t : List ℕ) (f : Frame) (m : Mode) (s₀ : State) (n₀ : ℕ) (ps₀ : List ℕ) (s : State) (n g : ℕ) (ps : List ℕ) : Type 0 where
@@ -65,17 +63,6 @@ module _ (t : List ℕ) (f : Frame) (m : Mode) (s₀ : State) (n₀ : ℕ) (ps�
     -- or the lane stops there
     pub way-done : {ps₁ : List ℕ} → Tried t f m s n ps ps₁ → LaneRan t f m s₀ n₀ ps₀ (record { state = s; pieces = n; given = b }) ps₁
     way-done w = record { passed = g .passed; way = g .way; count = g .count; tried = rw (g .wrote) at w }
-
-  -- the lane that passes nothing
-  pub unmoved-ran : {r : Stopped} → r .state ≡ s₀ → r .pieces ≡ n₀ → r .given ≡ 0 → LaneRan t f m s₀ n₀ ps₀ r ps₀
-  unfolding gather
-  unmoved-ran {r} e c z =
-      record {
-        passed = [];
-        way = rw (e, z) Way.none;
-        count = omega (arith, c);
-        tried = rw (laid-none ps₀ (40 * n₀)) (tried-none t f (r .state) (r .pieces) ps₀ m);
-      }
 
 -- a step that is passed passes a byte
 pub clear-later : (t : List ℕ) (f : Frame) (m : Mode) (s a : State) → Clear t f m s a → length t - a .at .0 < length t - s .at .0

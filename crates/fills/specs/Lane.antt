@@ -70,11 +70,11 @@ pub record Clear (t : List ℕ) (f : Frame) (m : Mode) (s s′ : State) : Type 0
   pub goes : onward s (stepAt t f m s) ≡ Onward.To s′
   pub one : length (piecesOf (stepAt t f m s)) ≡ 1
 
-pub record PassedBy (t : List ℕ) (f : Frame) (s : State) (n : ℕ) (ps : List ℕ) (r : Passed) (ps′ : List ℕ) : Type 0 where
-  pub clear : r .on ≡ true → Clear t f Mode.Format s (r .state)
-  pub wrote : r .on ≡ true → ps′ ≡ laid ps (40 * n) (gather pieceWords (piecesOf (stepAt t f Mode.Format s)))
-  pub given : r .on ≡ true → r .given ≡ givenBy (stepAt t f Mode.Format s)
-  pub tried : r .on ≡ false → Tried t f Mode.Format s n ps ps′
+pub record PassedBy (t : List ℕ) (f : Frame) (m : Mode) (s : State) (n : ℕ) (ps : List ℕ) (r : Passed) (ps′ : List ℕ) : Type 0 where
+  pub clear : r .on ≡ true → Clear t f m s (r .state)
+  pub wrote : r .on ≡ true → ps′ ≡ laid ps (40 * n) (gather pieceWords (piecesOf (stepAt t f m s)))
+  pub given : r .on ≡ true → r .given ≡ givenBy (stepAt t f m s)
+  pub tried : r .on ≡ false → Tried t f m s n ps ps′
 
 -- SUCH STEPS ONE AFTER ANOTHER, from a state to another: the pieces that they give, and how much they give back
 pub data Way (t : List ℕ) (f : Frame) (m : Mode) (s : State) : List Piece → ℕ → State → Type 0 where

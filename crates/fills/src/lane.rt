@@ -1,5 +1,5 @@
-// The lane: literal text and placeholders of Format mode, one after another, each part written as soon as it is read. It stops where the text ends, where
-// something is wrong, and where it does not tell what stands there. No struct is lent from inside its loop to a call that stays one (docs/SPEED.md).
+// The lane: literal text and placeholders, one after another, each part written as soon as it is read. It stops where the text ends, where something is wrong,
+// and where it does not tell what stands there, which in the other modes than Format is every spec. No struct is lent from inside its loop to a call that stays one (docs/SPEED.md).
 use crate::wrongs::put_wrongs;
 use frame::Frame;
 use frame::Mode;
@@ -24,6 +24,7 @@ ghost use Rattle.reading.specs.Lists.{piecesOf};
 ghost use Rattle.reading.specs.Steps.{stepAt};
 ghost use Rattle.reading.specs.declared.Step.{Step as Steps};
 ghost use Rattle.writing.specs.StepsWritten.{StepRoom, SteppedOn};
+ghost use Rattle.quick.specs.Tellings.{inMode};
 ghost use Rattle.fills.specs.Lane.{Open, Doubled, PassedBy, LaneRoom, LaneRan};
 
 // A step of the lane: whether it is passed, where reading then stands, and how many characters it gave back.
@@ -55,13 +56,14 @@ fn stay(state: State) -> Passed
 fn pass_literal(
     text: &[u8],
     frame: Frame,
+    mode: Mode,
     state: State,
     n: usize,
     pieces: &mut [u32],
     view: TextRange,
 ) -> Passed
-    requires { ⌜ (Steps.Literal view ≡ stepAt (now text) frame Modes.Format state) × (40 * (n + length (piecesOf (stepAt (now text) frame Modes.Format state))) ≤ length (now pieces)) ⌝ }
-    ensures { λ r. ⌜ PassedBy (now (text .entry)) frame state n (now (pieces .entry)) r (now (pieces .exit)) ⌝ }
+    requires { ⌜ (Steps.Literal view ≡ stepAt (now text) frame mode state) × (40 * (n + length (piecesOf (stepAt (now text) frame mode state))) ≤ length (now pieces)) ⌝ }
+    ensures { λ r. ⌜ PassedBy (now (text .entry)) frame mode state n (now (pieces .entry)) r (now (pieces .exit)) ⌝ }
 {
     let at = view.end;
     put_literal(pieces, n, view.start.0, at.0);
@@ -78,27 +80,63 @@ fn pass_literal(
 
 // The step at the first of two braces: literal text, whose view starts at the second. The text behind takes a call: a second look in place would make both a
 // call in the loop.
-fn pass_doubled(text: &[u8], frame: Frame, state: State, n: usize, pieces: &mut [u32]) -> Passed
-    requires { ⌜ Small (now text) frame × (40 * (n + length (piecesOf (stepAt (now text) frame Modes.Format state))) ≤ length (now pieces)) × Doubled (now text) (state .at .0) ⌝ }
-    ensures { λ r. ⌜ PassedBy (now (text .entry)) frame state n (now (pieces .entry)) r (now (pieces .exit)) ⌝ }
+fn pass_doubled(
+    text: &[u8],
+    frame: Frame,
+    mode: Mode,
+    state: State,
+    n: usize,
+    pieces: &mut [u32],
+) -> Passed
+    requires { ⌜ Small (now text) frame × (40 * (n + length (piecesOf (stepAt (now text) frame mode state))) ≤ length (now pieces)) × Doubled (now text) (state .at .0) ⌝ }
+    ensures { λ r. ⌜ PassedBy (now (text .entry)) frame mode state n (now (pieces .entry)) r (now (pieces .exit)) ⌝ }
 {
     let i = state.at.0;
     let start = TextPlace(i + 1);
     let end = scan::string_end(quick::whole(text), TextPlace(i + 2));
-    pass_literal(text, frame, state, n, pieces, TextRange { start, end })
+    pass_literal(
+        text,
+        frame,
+        mode,
+        state,
+        n,
+        pieces,
+        TextRange { start, end },
+    )
+}
+
+// Whether what is told holds in a mode: a spec is told as Format mode reads it, and without one a placeholder is read alike in each.
+fn speaks(mode: Mode, colon: bool) -> bool
+    ensures { λ r. ⌜ r ≡ inMode mode colon ⌝ }
+{
+    match mode {
+        Mode::Format => true,
+        Mode::InlineAsm => !colon,
+        Mode::Diagnostic => !colon,
+    }
 }
 
 // The step at an opening brace.
-fn pass_brace(text: &[u8], frame: Frame, state: State, n: usize, pieces: &mut [u32]) -> Passed
-    requires { ⌜ Small (now text) frame × (state .next < 0xFFFFE) × (40 * (n + length (piecesOf (stepAt (now text) frame Modes.Format state))) ≤ length (now pieces)) × (getD (now text) (state .at .0) 0 ≡ 0x7B) × (state .at .0 < length (now text)) ⌝ }
-    ensures { λ r. ⌜ PassedBy (now (text .entry)) frame state n (now (pieces .entry)) r (now (pieces .exit)) ⌝ }
+fn pass_brace(
+    text: &[u8],
+    frame: Frame,
+    mode: Mode,
+    state: State,
+    n: usize,
+    pieces: &mut [u32],
+) -> Passed
+    requires { ⌜ Small (now text) frame × (state .next < 0xFFFFE) × (40 * (n + length (piecesOf (stepAt (now text) frame mode state))) ≤ length (now pieces)) × (getD (now text) (state .at .0) 0 ≡ 0x7B) × (state .at .0 < length (now text)) ⌝ }
+    ensures { λ r. ⌜ PassedBy (now (text .entry)) frame mode state n (now (pieces .entry)) r (now (pieces .exit)) ⌝ }
 {
     let i = state.at.0;
     if utf8::byte(text, i + 1) == b'{' {
-        return pass_doubled(text, frame, state, n, pieces);
+        return pass_doubled(text, frame, mode, state, n, pieces);
     }
     let told = flawless::write(pieces, n, text, frame, i, state.next);
     if !told.ok {
+        return stay(state);
+    }
+    if !speaks(mode, told.colon) {
         return stay(state);
     }
     let spec = told.spec;
@@ -123,9 +161,9 @@ fn literal_end(text: &[u8], at: TextPlace) -> TextPlace
 }
 
 // The step where reading stands: passed where it is literal text, or a placeholder that `flawless` tells.
-fn pass(text: &[u8], frame: Frame, state: State, n: usize, pieces: &mut [u32]) -> Passed
-    requires { ⌜ Small (now text) frame × (state .next < 0xFFFFE) × (40 * (n + length (piecesOf (stepAt (now text) frame Modes.Format state))) ≤ length (now pieces)) ⌝ }
-    ensures { λ r. ⌜ PassedBy (now (text .entry)) frame state n (now (pieces .entry)) r (now (pieces .exit)) ⌝ }
+fn pass(text: &[u8], frame: Frame, mode: Mode, state: State, n: usize, pieces: &mut [u32]) -> Passed
+    requires { ⌜ Small (now text) frame × (state .next < 0xFFFFE) × (40 * (n + length (piecesOf (stepAt (now text) frame mode state))) ≤ length (now pieces)) ⌝ }
+    ensures { λ r. ⌜ PassedBy (now (text .entry)) frame mode state n (now (pieces .entry)) r (now (pieces .exit)) ⌝ }
 {
     let at = state.at;
     let i = at.0;
@@ -134,22 +172,37 @@ fn pass(text: &[u8], frame: Frame, state: State, n: usize, pieces: &mut [u32]) -
     }
     let b = text[i];
     if b == b'{' {
-        return pass_brace(text, frame, state, n, pieces);
+        return pass_brace(text, frame, mode, state, n, pieces);
     }
     if b == b'}' {
         if utf8::byte(text, i + 1) == b'}' {
-            return pass_doubled(text, frame, state, n, pieces);
+            return pass_doubled(text, frame, mode, state, n, pieces);
         }
         return stay(state);
     }
     let end = literal_end(text, at);
-    pass_literal(text, frame, state, n, pieces, TextRange { start: at, end })
+    pass_literal(
+        text,
+        frame,
+        mode,
+        state,
+        n,
+        pieces,
+        TextRange { start: at, end },
+    )
 }
 
 // Steps from where reading stands, as many as are passed one after another.
-fn lane(text: &[u8], frame: Frame, from: State, written: usize, pieces: &mut [u32]) -> Stopped
-    requires { ⌜ Small (now text) frame × LaneRoom (now text) frame Modes.Format from written (now pieces) ⌝ }
-    ensures { λ r. ⌜ LaneRan (now (text .entry)) frame Modes.Format from written (now (pieces .entry)) r (now (pieces .exit)) ⌝ }
+fn lane(
+    text: &[u8],
+    frame: Frame,
+    mode: Mode,
+    from: State,
+    written: usize,
+    pieces: &mut [u32],
+) -> Stopped
+    requires { ⌜ Small (now text) frame × LaneRoom (now text) frame mode from written (now pieces) ⌝ }
+    ensures { λ r. ⌜ LaneRan (now (text .entry)) frame mode from written (now (pieces .entry)) r (now (pieces .exit)) ⌝ }
 {
     let mut at = from.at.0;
     let mut next = from.next;
@@ -162,7 +215,7 @@ fn lane(text: &[u8], frame: Frame, from: State, written: usize, pieces: &mut [u3
             next,
             arguments,
         };
-        let step = pass(text, frame, state, n, &mut *pieces);
+        let step = pass(text, frame, mode, state, n, &mut *pieces);
         let after = step.state;
         if !step.on {
             return Stopped {
@@ -213,7 +266,7 @@ fn own_extent(extent: Extent) -> Extent
     }
 }
 
-// The lane is one of Format mode: in another nothing is passed. Its text and frame are its own.
+// The lane, with a text and a frame of its own.
 pub fn lane_in(
     text: &[u8],
     frame: Frame,
@@ -225,22 +278,7 @@ pub fn lane_in(
     requires { ⌜ Small (now text) frame × LaneRoom (now text) frame mode state n (now pieces) ⌝ }
     ensures { λ r. ⌜ LaneRan (now (text .entry)) frame mode state n (now (pieces .entry)) r (now (pieces .exit)) ⌝ }
 {
-    match mode {
-        Mode::Format => lane(quick::whole(text), own_frame(frame), state, n, pieces),
-        Mode::InlineAsm => unmoved(state, n),
-        Mode::Diagnostic => unmoved(state, n),
-    }
-}
-
-// Where nothing is passed.
-fn unmoved(state: State, n: usize) -> Stopped
-    ensures { λ r. ⌜ (r .state ≡ state) × (r .pieces ≡ n) × (r .given ≡ 0) ⌝ }
-{
-    Stopped {
-        state,
-        pieces: n,
-        given: 0,
-    }
+    lane(quick::whole(text), own_frame(frame), mode, state, n, pieces)
 }
 
 // Whether a placeholder of Format mode stands at a byte of the text: a brace, and not two.

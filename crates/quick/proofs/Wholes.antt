@@ -1,7 +1,7 @@
 -- A placeholder whose parts are told is the placeholder that is read. Rests on Specs, Endings and `closing`'s definition of a placeholder.
 use Prim.Native.Nat.{ℕ, _+_, _≤_}
 use mathlib.Core.Path.{_≡_, refl, sym, _∙_, ap}
-use mathlib.Core.Bool.{Bool, true, false, true≢false}
+use mathlib.Core.Bool.{Bool, true, false, not, true≢false}
 use mathlib.Core.List.{List}
 use native.Mathlib.Nat.{add-zero}
 use native.Mathlib.Omega.{arith}
@@ -21,12 +21,12 @@ use Rattle.scan.specs.declared.Flaw.{Flaw}
 use Rattle.scan.specs.declared.Numeral.{Numeral}
 use Rattle.placeholder.specs.Arguments.{resolved, joined, argumentRead}
 use Rattle.placeholder.specs.Places.{placed}
-use Rattle.placeholder.specs.Specs.{noSpec, specRead}
+use Rattle.placeholder.specs.Specs.{noSpec, afterColon, specRead}
 use Rattle.frame.specs.declared.Mode.{Mode}
 use Rattle.placeholder.specs.declared.between.ArgumentRead.{ArgumentRead}
 use Rattle.placeholder.specs.declared.format.SpecRead.{SpecRead}
 use Rattle.placeholder.specs.declared.position.Found.{Found}
-use Rattle.closing.specs.Recovery.{because, gapAt, passedTo}
+use Rattle.closing.specs.Recovery.{because, gapAt, passedTo, textTaken}
 use Rattle.closing.specs.Wholes.{wholeOf, missingRead, placeholderRead}
 use Rattle.closing.specs.declared.whole.Closing.{Closing}
 use Rattle.closing.specs.declared.whole.PlaceholderRead.{PlaceholderRead}
@@ -34,8 +34,8 @@ use Rattle.quick.specs.declared.SignHint.{SignHint}
 use Rattle.quick.specs.declared.PartTold.{PartTold}
 use Rattle.quick.specs.declared.SpecTold.{SpecTold}
 use Rattle.quick.specs.declared.PlaceholderTold.{PlaceholderTold}
-use Rattle.quick.specs.Tellings.{foundOf, afterStar, specOf, argumentOf, nextOf, blankFlaw, blanksOf, placedHint, closingOf, toldRead, Tells}
-use Rattle.quick.specs.PartsTold.{Known, hintOf, onwardOf, SpecKnown, NoSpec, LeftTold, PlaceTold, PlaceEnds}
+use Rattle.quick.specs.Tellings.{foundOf, afterStar, specOf, argumentOf, nextOf, blankFlaw, blanksOf, placedHint, closingOf, toldRead, inMode, Tells}
+use Rattle.quick.specs.PartsTold.{Known, hintOf, onwardOf, specFound, SpecKnown, NoSpec, LeftTold, PlaceTold, PlaceEnds}
 use Rattle.scan.specs.AsciiWordLaws.{byte-in}
 use Rattle.quick.proofs.Bytes.{has, lacks, run-again}
 use Rattle.quick.proofs.Endings.{past-byte, recover-told, hint-in}
@@ -72,7 +72,7 @@ pub record Ending (t : List ℕ) (p : PartTold) (close : ℕ) (closed : Bool) (h
 
 -- what a placeholder that is told rests on
 pub record Sound (t : List ℕ) (x : PlaceholderTold) : Type 0 where
-  pub spec : (f : Frame) (n : ℕ) → specRead t f Mode.Format (place (x .to)) n ≡ specTold t f n x
+  pub spec : (m : Mode) → inMode m (x .colon) ≡ true → (f : Frame) (n : ℕ) → specRead t f m (place (x .to)) n ≡ specTold t f n x
   pub colon : x .colon ≡ true → getD t (x .to) 0 ≡ 0x3A
   pub wide : x .spec .width .tag ≤ 4
   pub precise : x .spec .precision .tag ≤ 5
@@ -93,16 +93,16 @@ same-next a b n p = go (eqb (p .tag) 0) (eqb (p .tag) 1)
     go false false = refl
 
 -- what is read at an argument's end
-abbrev readEnd : List ℕ → Frame → TextPlace → ArgumentRead → ℕ → PlaceholderRead
-readEnd t f brace a close =
+abbrev readEnd : List ℕ → Frame → Mode → TextPlace → ArgumentRead → ℕ → PlaceholderRead
+readEnd t f m brace a close =
     pick (consumed t (place close) 0x7D .ate)
-    (wholeOf t f Mode.Format brace a (Closing.Closed (place close)) (consumed t (place close) 0x7D .at) (a .next) (a .given))
-    (missingRead t f Mode.Format brace a (place close))
+    (wholeOf t f m brace a (Closing.Closed (place close)) (consumed t (place close) 0x7D .at) (a .next) (a .given))
+    (missingRead t f m brace a (place close))
 
 -- and what is told of it, with the place of a fill
-abbrev toldEnd : List ℕ → Frame → TextPlace → ArgumentRead → TextPlace → ℕ → Bool → SignHint → ℕ → PlaceholderRead
-toldEnd t f brace a fill close closed hint on =
-    wholeOf t f Mode.Format brace a
+abbrev toldEnd : List ℕ → Frame → Mode → TextPlace → ArgumentRead → TextPlace → ℕ → Bool → SignHint → ℕ → PlaceholderRead
+toldEnd t f m brace a fill close closed hint on =
+    wholeOf t f m brace a
     (pick closed (Closing.Closed (place close))
     (Closing.Missing
     (gapAt t (place close) (because (a .spec .fill) fill brace))
@@ -113,17 +113,17 @@ toldEnd t f brace a fill close closed hint on =
 
 -- they are the same
 end-told : {t : List ℕ} {p : PartTold} {close : ℕ} {closed : Bool} {hint : SignHint} {on : ℕ} → Ending t p close closed hint on →
-    (f : Frame) (brace : TextPlace) (a : ArgumentRead) → readEnd t f brace a close ≡ toldEnd t f brace a (pastAt t (a .to)) close closed hint on
+    (f : Frame) (m : Mode) (brace : TextPlace) (a : ArgumentRead) → readEnd t f m brace a close ≡ toldEnd t f m brace a (pastAt t (a .to)) close closed hint on
 unfolding missingRead onwardOf pick
-end-told {t} {p} {close} {closed} {hint} {on} e f brace a = go (eqb (getD t close 0) 0x7D) refl
+end-told {t} {p} {close} {closed} {hint} {on} e f m brace a = go (eqb (getD t close 0) 0x7D) refl
   where
-    go : (x : Bool) → eqb (getD t close 0) 0x7D ≡ x → readEnd t f brace a close ≡ toldEnd t f brace a (pastAt t (a .to)) close closed hint on
+    go : (x : Bool) → eqb (getD t close 0) 0x7D ≡ x → readEnd t f m brace a close ≡ toldEnd t f m brace a (pastAt t (a .to)) close closed hint on
     go true y =
         rw (has t close 0x7D (omega arith) (omega arith) (eqb-true (getD t close 0) 0x7D y), e .goes, e .brace, y)
     go false y =
         rw (
           lacks t close 0x7D (omega arith) (omega arith) (eqb-false (getD t close 0) 0x7D y),
-          recover-told t close f Mode.Format _ _ _ (e .question) (e .dot),
+          recover-told t close f m _ _ _ (e .question) (e .dot),
           e .goes,
           e .brace,
           y,
@@ -133,9 +133,21 @@ end-told {t} {p} {close} {closed} {hint} {on} e f brace a = go (eqb (getD t clos
 
 module _ {t : List ℕ} {at : ℕ} {x : PlaceholderTold} (e : PlaceEnds t at (x .place) (x .to)) (s : Sound t x) where
   -- the argument that is told is the one that is read
-  argument-told : (f : Frame) (n : ℕ) → argumentRead t f Mode.Format (place at) n ≡ argumentTold t f at n x
+  argument-told : (m : Mode) → inMode m (x .colon) ≡ true → (f : Frame) (n : ℕ) → argumentRead t f m (place at) n ≡ argumentTold t f at n x
   unfolding argumentRead spacesPast
-  argument-told f n = rw (e .placed .read (s .ending .placed), ← e .ends, s .spec f n)
+  argument-told m y f n = rw (e .placed .read (s .ending .placed), ← e .ends, s .spec m y f n)
+
+  -- the literal text that its type is, which is none
+  text-told : (m : Mode) → inMode m (x .colon) ≡ true → (f : Frame) (n : ℕ) →
+      textTaken m (specTold t f n x .spec .typetext) ≡ textTaken Mode.Format (specTold t f n x .spec .typetext)
+  unfolding pick
+  text-told Mode.Format y f n = refl
+  text-told Mode.InlineAsm y f n = refl
+  text-told Mode.Diagnostic y f n = go (x .colon) refl y
+    where
+      go : (c : Bool) → x .colon ≡ c → not c ≡ true → specTold t f n x .spec .typetext ≡ textTaken Mode.Format (specTold t f n x .spec .typetext)
+      go true q z = absurd (true≢false (sym z))
+      go false q z = rw q
 
   -- a fill stands a byte after the colon, and without a colon there is none
   fill-told : (f : Frame) (n : ℕ) (brace : TextPlace) →
@@ -149,14 +161,15 @@ module _ {t : List ℕ} {at : ℕ} {x : PlaceholderTold} (e : PlaceEnds t at (x 
       go false y = rw y
 
   -- WHAT IS TOLD IS WHAT IS READ
-  told-read : (f : Frame) (brace n : ℕ) → at ≡ brace + 1 →
-      placeholderRead t f Mode.Format (place brace) (place at) n ≡ toldRead t f brace n x
+  told-read : (m : Mode) → inMode m (x .colon) ≡ true → (f : Frame) (brace n : ℕ) → at ≡ brace + 1 →
+      placeholderRead t f m (place brace) (place at) n ≡ toldRead t f brace n x
   unfolding placeholderRead spacesPast toldRead argumentOf nextOf blanksOf closingOf
-  told-read f brace n q =
+  told-read m y f brace n q =
       rw (
-        argument-told f n,
+        argument-told m y f n,
         ← s .closing,
-        end-told (s .ending) f (place brace) (argumentTold t f at n x),
+        end-told (s .ending) f m (place brace) (argumentTold t f at n x),
+        text-told m y f n,
         fill-told f n (place brace),
         same-next 0 at (afterStar n (x .spec .precision)) (x .place),
         q,
@@ -213,7 +226,7 @@ module _ {t : List ℕ} {p : PartTold} {to on : ℕ} {o closed : Bool} {hint : S
   unfolding specRead pick
   sound-spec b k y r e =
       record {
-        spec = λ f n. rw (has t to 0x3A (omega arith) (omega arith) b, k .read y f n);
+        spec = λ m z f n. rw (has t to 0x3A (omega arith) (omega arith) b) (in-format m z f n);
         colon = λ _. b;
         wide = k .wide y;
         precise = k .precise y;
@@ -221,6 +234,11 @@ module _ {t : List ℕ} {p : PartTold} {to on : ℕ} {o closed : Bool} {hint : S
         closing = r;
         ending = e;
       }
+    where
+      in-format : (m : Mode) → inMode m true ≡ true → (f : Frame) (n : ℕ) → afterColon t f m (place to) (place (to + 1)) n ≡ specFound t f (to + 1) n s
+      in-format Mode.Format z f n = k .read y f n
+      in-format Mode.InlineAsm z f n = absurd (true≢false (sym z))
+      in-format Mode.Diagnostic z f n = absurd (true≢false (sym z))
 
   -- with no colon
   pub sound-bare : {at : ℕ} → (getD t to 0 ≡ 0x3A → ⊥) → NoSpec to s → PlaceEnds t at p to → Ending t p to closed hint on →
@@ -228,7 +246,7 @@ module _ {t : List ℕ} {p : PartTold} {to on : ℕ} {o closed : Bool} {hint : S
   unfolding specRead afterStar blankFlaw pick
   sound-bare b k r e =
       record {
-        spec = λ f n. rw (lacks t to 0x3A (omega arith) (omega arith) b, k .wide, k .precise, k .typed, k .ends, k .given);
+        spec = λ m z f n. rw (lacks t to 0x3A (omega arith) (omega arith) b, k .wide, k .precise, k .typed, k .ends, k .given);
         colon = λ z. absurd (true≢false (sym z));
         wide = rw (k .wide) (omega arith);
         precise = rw (k .precise) (omega arith);

@@ -1,7 +1,7 @@
 -- What is told of a placeholder, in the records that `closing` reads. A tag of 9, and what is not `ok`, means nothing: it is not told.
 use Prim.Native.Nat.{ℕ, _+_, _-_, _≤_}
 use mathlib.Core.Path.{_≡_}
-use mathlib.Core.Bool.{Bool, true}
+use mathlib.Core.Bool.{Bool, true, not}
 use mathlib.Core.List.{List}
 use lib.Dec.{eqb}
 use lib.ListN.{length}
@@ -168,9 +168,16 @@ toldRead t f brace n x =
       given = x .spec .given;
     }
 
+-- a mode in which what is told holds, with a colon or without: a spec is told as Format mode reads it, and without one each mode reads alike
+abbrev pub inMode : Mode → Bool → Bool
+inMode Mode.Format colon = true
+inMode Mode.InlineAsm colon = not colon
+inMode Mode.Diagnostic colon = not colon
+
 -- WHAT IS TOLD IS WHAT IS READ, for the placeholder whose place starts at a byte, in any frame and with any number of the next argument
 pub record Tells (t : List ℕ) (at : ℕ) (x : PlaceholderTold) : Type 0 where
-  pub read : x .ok ≡ true → (f : Frame) (brace n : ℕ) → at ≡ brace + 1 → placeholderRead t f Mode.Format (place brace) (place at) n ≡ toldRead t f brace n x
+  pub read : x .ok ≡ true → (m : Mode) → inMode m (x .colon) ≡ true → (f : Frame) (brace n : ℕ) → at ≡ brace + 1 →
+      placeholderRead t f m (place brace) (place at) n ≡ toldRead t f brace n x
   pub placed : x .ok ≡ true → x .place .tag ≤ 2
   pub wide : x .ok ≡ true → x .spec .width .tag ≤ 4
   pub precise : x .ok ≡ true → x .spec .precision .tag ≤ 5

@@ -6,39 +6,38 @@ use mathlib.Core.Path.{_∙_}
 use lib.ListN.{length}
 use denote.Ref.{now}
 use Rattle.frame.specs.Places.{place}
-use Rattle.frame.specs.declared.Mode.{Mode}
 use Rattle.reading.specs.Steps.{stateOf}
 use Rattle.fills.proofs.Ways.{OnWay, way-first, way-same, way-room, way-on, way-done, clear-later}
 use Rattle.fills.proofs.lane.lane.Statement.{statement}
 use Rattle.fills.proofs.lane.lane.Tie as tie
 
 abbrev Inv-loop : tie.InvT-loop
-Inv-loop text frame written pieces₀ at₀ next₀ arguments₀ n₀ given₀ pieces at next arguments n given =
-    OnWay text frame Mode.Format (stateOf (place at₀) next₀ arguments₀) n₀ pieces₀ (stateOf (place at) next arguments) n given pieces
+Inv-loop text frame mode written pieces₀ at₀ next₀ arguments₀ n₀ given₀ pieces at next arguments n given =
+    OnWay text frame mode (stateOf (place at₀) next₀ arguments₀) n₀ pieces₀ (stateOf (place at) next arguments) n given pieces
 
 abbrev μ-loop : tie.MeasureT-loop
-μ-loop text frame written pieces₀ at₀ next₀ arguments₀ n₀ given₀ pieces at next arguments n given = length text - at
+μ-loop text frame mode written pieces₀ at₀ next₀ arguments₀ n₀ given₀ pieces at next arguments n given = length text - at
 
 loop-holds : tie.Need-loop-holds Inv-loop μ-loop
-loop-holds c = let a = c .before .before .args in way-first (now (a .text)) (a .frame) Mode.Format (a .from) (a .written) (now (a .pieces))
+loop-holds c = let a = c .before .before .args in way-first (now (a .text)) (a .frame) (a .mode) (a .from) (a .written) (now (a .pieces))
 
 pass-requires : tie.Need-pass-requires Inv-loop μ-loop
 pass-requires c κs =
     let a = c .before .before .before .before .args in
     let g = c .before .loop .inv in
-    (c .before .before .before .before .pre .0, c .before .before .before .before .pre .1 .next (g .way), way-room (now (a .text)) (a .frame) Mode.Format (a .from) (a .written) (now (a .pieces)) (c .before .before .before .before .pre .1) g)
+    (c .before .before .before .before .pre .0, c .before .before .before .before .pre .1 .next (g .way), way-room (now (a .text)) (a .frame) (a .mode) (a .from) (a .written) (now (a .pieces)) (c .before .before .before .before .pre .1) g)
 
 same-length : tie.Need-same-length Inv-loop μ-loop
 same-length c =
     let a = c .before .before .before .before .before .before .before .before .before .before .args in
-    c .before .before .before .before .pieces .given ∙ way-same (now (a .text)) (a .frame) Mode.Format (a .from) (a .written) (now (a .pieces)) (c .before .before .before .before .before .before .before .before .before .before .pre .1) (c .before .before .before .before .before .before .before .loop .inv)
+    c .before .before .before .before .pieces .given ∙ way-same (now (a .text)) (a .frame) (a .mode) (a .from) (a .written) (now (a .pieces)) (c .before .before .before .before .before .before .before .before .before .before .pre .1) (c .before .before .before .before .before .before .before .loop .inv)
 
 returns : tie.Need-returns Inv-loop μ-loop
 returns c =
     let a = c .before .before .before .before .before .before .before .before .before .before .args in
     let no = not-true _ (c .if1 .taken) in
     let p = c .before .before .before .before .before .pass .ensures in
-    way-done (now (a .text)) (a .frame) Mode.Format (a .from) (a .written) (now (a .pieces)) (c .before .before .before .before .before .before .before .before .before .before .pre .1) (c .before .before .before .before .before .before .before .loop .inv) (p .tried no)
+    way-done (now (a .text)) (a .frame) (a .mode) (a .from) (a .written) (now (a .pieces)) (c .before .before .before .before .before .before .before .before .before .before .pre .1) (c .before .before .before .before .before .before .before .loop .inv) (p .tried no)
 
 add-n : tie.Need-add-n Inv-loop μ-loop
 add-n c =
@@ -53,14 +52,14 @@ add-given c =
 loop-less : tie.Need-loop-less Inv-loop μ-loop
 loop-less c =
     let a = c .before .before .before .before .before .before .before .before .before .before .before .args in
-    clear-later (now (a .text)) (a .frame) Mode.Format _ _ (c .before .before .before .before .before .before .pass .ensures .clear (not-false _ (c .before .if1 .left)))
+    clear-later (now (a .text)) (a .frame) (a .mode) _ _ (c .before .before .before .before .before .before .pass .ensures .clear (not-false _ (c .before .if1 .left)))
 
 loop-again : tie.Need-loop-again Inv-loop μ-loop
 loop-again c =
     let a = c .before .before .before .before .before .before .before .before .before .before .before .args in
     let yes = not-false _ (c .before .if1 .left) in
     let p = c .before .before .before .before .before .before .pass .ensures in
-    way-on (now (a .text)) (a .frame) Mode.Format (a .from) (a .written) (now (a .pieces)) (c .before .before .before .before .before .before .before .before .before .before .before .pre .1) (c .before .before .before .before .before .before .before .before .loop .inv) (p .clear yes) (p .wrote yes) (p .given yes)
+    way-on (now (a .text)) (a .frame) (a .mode) (a .from) (a .written) (now (a .pieces)) (c .before .before .before .before .before .before .before .before .before .before .before .pre .1) (c .before .before .before .before .before .before .before .before .loop .inv) (p .clear yes) (p .wrote yes) (p .given yes)
 
 pub lane-spec : {M : Type 1} → statement M
 lane-spec =

@@ -4,7 +4,6 @@ use mathlib.Core.Path.{sym, ap, _∙_}
 use mathlib.Core.Logic.{inr}
 use denote.Ref.{now}
 use Rattle.frame.specs.Places.{rangeOf}
-use Rattle.frame.specs.declared.Mode.{Mode}
 use Rattle.frame.specs.declared.TextPlace.{TextPlace}
 use Rattle.reading.specs.declared.Step.{Step}
 use Rattle.fills.proofs.Passing.{stopped-none}
@@ -16,7 +15,7 @@ stay-requires : tie.Need-stay-requires
 stay-requires c κs = search needs
 
 returns : tie.Need-returns
-returns c = let a = c .before .before .before .before .before .args in stopped-none (now (a .text)) (a .frame) (a .state) (a .n) (now (a .pieces)) (c .stay .ensures)
+returns c = let a = c .before .before .before .before .before .args in stopped-none (now (a .text)) (a .frame) (a .mode) (a .state) (a .n) (now (a .pieces)) (c .stay .ensures)
 
 shared-slice-read-b : tie.Need-shared-slice-read-b
 shared-slice-read-b c = search needs
@@ -51,7 +50,7 @@ stay-requires-2 : tie.Need-stay-requires-2
 stay-requires-2 c κs = search needs
 
 returns-4 : tie.Need-returns-4
-returns-4 c = let a = c .before .before .before .before .before .before .before .before .before .before .args in stopped-none (now (a .text)) (a .frame) (a .state) (a .n) (now (a .pieces)) (c .stay2 .ensures)
+returns-4 c = let a = c .before .before .before .before .before .before .before .before .before .before .args in stopped-none (now (a .text)) (a .frame) (a .mode) (a .state) (a .n) (now (a .pieces)) (c .stay2 .ensures)
 
 literal-end-requires : tie.Need-literal-end-requires
 literal-end-requires c κs = search needs
@@ -60,7 +59,7 @@ pass-literal-requires : tie.Need-pass-literal-requires
 pass-literal-requires c κs =
     let s = c .before .before .before .before .before .before .before .before .before in
     let a = s .args in
-    (ap (λ (p : TextPlace). Step.Literal (rangeOf (a .state .at) p)) (c .before .literal-end .ensures) ∙ step-literal (now (a .text)) (a .frame) Mode.Format (a .state) (c .before .before .before .before .before .if1 .left) (c .before .before .before .if2 .left) (c .before .before .if3 .left), s .pre .2)
+    (ap (λ (p : TextPlace). Step.Literal (rangeOf (a .state .at) p)) (c .before .literal-end .ensures) ∙ step-literal (now (a .text)) (a .frame) (a .mode) (a .state) (c .before .before .before .before .before .if1 .left) (c .before .before .before .if2 .left) (c .before .before .if3 .left), s .pre .2)
 
 same-length-3 : tie.Need-same-length-3
 same-length-3 c = search needs

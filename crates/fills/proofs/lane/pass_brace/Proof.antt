@@ -29,7 +29,7 @@ write-requires : tie.Need-write-requires
 write-requires c κs =
     let s = c .before .before .before .before .before .pre in
     let a = c .before .before .before .before .before .args in
-    (s .0, s .4, s .1, open-fits (now (a .text)) (a .frame) (a .state) (a .n) (now (a .pieces)) (s .4) (s .3) (λ e. c .before .if1 .left (c .before .before .byte .ensures ∙ e)) (s .2))
+    (s .0, s .4, s .1, open-fits (now (a .text)) (a .frame) (a .mode) (a .state) (a .n) (now (a .pieces)) (s .4) (s .3) (λ e. c .before .if1 .left (c .before .before .byte .ensures ∙ e)) (s .2))
 
 stay-requires : tie.Need-stay-requires
 stay-requires c κs = search needs
@@ -41,24 +41,42 @@ returns-2 : tie.Need-returns-2
 returns-2 c =
     let s = c .before .before .before .before .before .before .before .before .before .before .before .pre in
     let a = c .before .before .before .before .before .before .before .before .before .before .before .args in
-    let room = open-fits (now (a .text)) (a .frame) (a .state) (a .n) (now (a .pieces)) (s .4) (s .3) (λ e. c .before .before .before .before .before .before .before .if1 .left (c .before .before .before .before .before .before .before .before .byte .ensures ∙ e)) (s .2) in
+    let room = open-fits (now (a .text)) (a .frame) (a .mode) (a .state) (a .n) (now (a .pieces)) (s .4) (s .3) (λ e. c .before .before .before .before .before .before .before .if1 .left (c .before .before .before .before .before .before .before .before .byte .ensures ∙ e)) (s .2) in
     let put = c .before .before .before .before .before .write .ensures in
-    open-left (now (a .text)) (a .frame) (a .state) (a .n) (now (a .pieces)) (s .4) (s .3) (λ e. c .before .before .before .before .before .before .before .if1 .left (c .before .before .before .before .before .before .before .before .byte .ensures ∙ e)) room (put .0) (put .2) (c .stay .ensures)
+    open-left (now (a .text)) (a .frame) (a .mode) (a .state) (a .n) (now (a .pieces)) (s .4) (s .3) (λ e. c .before .before .before .before .before .before .before .if1 .left (c .before .before .before .before .before .before .before .before .byte .ensures ∙ e)) room (put .0) (put .2) (c .stay .ensures)
 
-after-told-requires : tie.Need-after-told-requires
-after-told-requires c κs = search needs
+speaks-requires : tie.Need-speaks-requires
+speaks-requires c κs = search needs
+
+stay-requires-2 : tie.Need-stay-requires-2
+stay-requires-2 c κs = search needs
 
 same-length-3 : tie.Need-same-length-3
 same-length-3 c = search needs
 
 returns-3 : tie.Need-returns-3
 returns-3 c =
-    let s = c .before .before .before .before .before .before .before .before .before .before .before .before .pre in
-    let a = c .before .before .before .before .before .before .before .before .before .before .before .before .args in
-    let room = open-fits (now (a .text)) (a .frame) (a .state) (a .n) (now (a .pieces)) (s .4) (s .3) (λ e. c .before .before .before .before .before .before .before .before .if1 .left (c .before .before .before .before .before .before .before .before .before .byte .ensures ∙ e)) (s .2) in
-    let put = c .before .before .before .before .before .before .write .ensures in
-    let y = not-false _ (c .before .before .if2 .left) in
-    open-passed (now (a .text)) (a .frame) (a .state) (a .n) (now (a .pieces)) (s .4) (s .3) (λ e. c .before .before .before .before .before .before .before .before .if1 .left (c .before .before .before .before .before .before .before .before .before .byte .ensures ∙ e)) room (put .0) (put .2) y (put .1 y) (c .after-told .ensures)
+    let s = c .before .before .before .before .before .before .before .before .before .before .before .before .before .pre in
+    let a = c .before .before .before .before .before .before .before .before .before .before .before .before .before .args in
+    let put = c .before .before .before .before .before .before .before .write .ensures in
+    open-left (now (a .text)) (a .frame) (a .mode) (a .state) (a .n) (now (a .pieces)) (s .4) (s .3) (λ e. c .before .before .before .before .before .before .before .before .before .if1 .left (c .before .before .before .before .before .before .before .before .before .before .byte .ensures ∙ e))
+    (open-fits (now (a .text)) (a .frame) (a .mode) (a .state) (a .n) (now (a .pieces)) (s .4) (s .3) (λ e. c .before .before .before .before .before .before .before .before .before .if1 .left (c .before .before .before .before .before .before .before .before .before .before .byte .ensures ∙ e)) (s .2)) (put .0) (put .2) (c .stay2 .ensures)
+
+after-told-requires : tie.Need-after-told-requires
+after-told-requires c κs = search needs
+
+same-length-4 : tie.Need-same-length-4
+same-length-4 c = search needs
+
+returns-4 : tie.Need-returns-4
+returns-4 c =
+    let s = c .before .before .before .before .before .before .before .before .before .before .before .before .before .before .pre in
+    let a = c .before .before .before .before .before .before .before .before .before .before .before .before .before .before .args in
+    let put = c .before .before .before .before .before .before .before .before .write .ensures in
+    let y = not-false _ (c .before .before .before .before .if2 .left) in
+    let z = sym (c .before .before .before .speaks .ensures) ∙ not-false _ (c .before .before .if3 .left) in
+    open-passed (now (a .text)) (a .frame) (a .mode) (a .state) (a .n) (now (a .pieces)) (s .4) (s .3) (λ e. c .before .before .before .before .before .before .before .before .before .before .if1 .left (c .before .before .before .before .before .before .before .before .before .before .before .byte .ensures ∙ e))
+    (open-fits (now (a .text)) (a .frame) (a .mode) (a .state) (a .n) (now (a .pieces)) (s .4) (s .3) (λ e. c .before .before .before .before .before .before .before .before .before .before .if1 .left (c .before .before .before .before .before .before .before .before .before .before .before .byte .ensures ∙ e)) (s .2)) (put .0) (put .2) y z (put .1 y) (c .after-told .ensures)
 
 pub pass-brace-spec : {M : Type 1} → statement M
 pass-brace-spec =
@@ -73,6 +91,10 @@ pass-brace-spec =
     stay-requires
     same-length-2
     returns-2
-    after-told-requires
+    speaks-requires
+    stay-requires-2
     same-length-3
-    returns-3)
+    returns-3
+    after-told-requires
+    same-length-4
+    returns-4)

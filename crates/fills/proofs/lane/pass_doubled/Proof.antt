@@ -5,21 +5,20 @@ use mathlib.Core.Path.{ap, _∙_}
 use native.Mathlib.Omega.{arith}
 use denote.Ref.{now}
 use Rattle.frame.specs.Places.{place, rangeOf}
-use Rattle.frame.specs.declared.Mode.{Mode}
 use Rattle.frame.specs.declared.TextPlace.{TextPlace}
 use Rattle.reading.specs.declared.Step.{Step}
 use Rattle.fills.proofs.Stepping.{doubled-within, step-doubled}
 use Rattle.fills.proofs.lane.pass_doubled.Statement.{statement}
 use Rattle.fills.proofs.lane.pass_doubled.Tie as tie
 
-add-t9 : tie.Need-add-t9
-add-t9 c = let s = c .before .before in omega (arith, s .pre .0 .text, doubled-within (now (s .args .text)) (s .args .state .at .0) (s .pre .2))
+add-t10 : tie.Need-add-t10
+add-t10 c = let s = c .before .before in omega (arith, s .pre .0 .text, doubled-within (now (s .args .text)) (s .args .state .at .0) (s .pre .2))
 
 whole-requires : tie.Need-whole-requires
 whole-requires c κs = search needs
 
-add-t9-2 : tie.Need-add-t9-2
-add-t9-2 c = let s = c .before .before .before in omega (arith, s .pre .0 .text, doubled-within (now (s .args .text)) (s .args .state .at .0) (s .pre .2))
+add-t10-2 : tie.Need-add-t10-2
+add-t10-2 c = let s = c .before .before .before in omega (arith, s .pre .0 .text, doubled-within (now (s .args .text)) (s .args .state .at .0) (s .pre .2))
 
 string-end-requires : tie.Need-string-end-requires
 string-end-requires c κs = search needs
@@ -28,7 +27,7 @@ pass-literal-requires : tie.Need-pass-literal-requires
 pass-literal-requires c κs =
     let s = c .before .before .before .before .before in
     let a = s .args in
-    (ap (λ (p : TextPlace). Step.Literal (rangeOf (place (a .state .at .0 + 1)) p)) (rw (c .before .before .whole .ensures) at (c .before .string-end .ensures)) ∙ step-doubled (now (a .text)) (a .frame) Mode.Format (a .state) (doubled-within (now (a .text)) (a .state .at .0) (s .pre .2)) (s .pre .2), s .pre .1)
+    (ap (λ (p : TextPlace). Step.Literal (rangeOf (place (a .state .at .0 + 1)) p)) (rw (c .before .before .whole .ensures) at (c .before .string-end .ensures)) ∙ step-doubled (now (a .text)) (a .frame) (a .mode) (a .state) (doubled-within (now (a .text)) (a .state .at .0) (s .pre .2)) (s .pre .2), s .pre .1)
 
 same-length : tie.Need-same-length
 same-length c = search needs
@@ -40,9 +39,9 @@ pub pass-doubled-spec : {M : Type 1} → statement M
 pass-doubled-spec =
     tie.close
     (tie.spec
-    add-t9
+    add-t10
     whole-requires
-    add-t9-2
+    add-t10-2
     string-end-requires
     pass-literal-requires
     same-length

@@ -9,7 +9,7 @@ put-literal-requires : tie.Need-put-literal-requires
 put-literal-requires c κs =
     let s = c .before .before .before .before in
     let a = s .args in
-    literal-fits (now (a .text)) (a .frame) (a .state) (a .n) (now (a .pieces)) (s .pre .0) (s .pre .1)
+    literal-fits (now (a .text)) (a .frame) (a .mode) (a .state) (a .n) (now (a .pieces)) (s .pre .0) (s .pre .1)
 
 same-length : tie.Need-same-length
 same-length c = search needs
@@ -18,7 +18,7 @@ returns : tie.Need-returns
 returns c =
     let s = c .before .before .before .before .before .before .before in
     let a = s .args in
-    literal-passed (now (a .text)) (a .frame) (a .state) (a .n) (now (a .pieces)) (s .pre .0) (c .before .before .put-literal .ensures)
+    literal-passed (now (a .text)) (a .frame) (a .mode) (a .state) (a .n) (now (a .pieces)) (s .pre .0) (c .before .before .put-literal .ensures)
 
 pub pass-literal-spec : {M : Type 1} → statement M
 pass-literal-spec = tie.close (tie.spec put-literal-requires same-length returns)
