@@ -52,7 +52,7 @@ fn stay(state: State) -> Passed
     }
 }
 
-// The step that is literal text: its view is written. The text and the frame are there for what is promised: they say which step it is.
+// The step that is literal text: its view is written. The text, the frame and the mode are there for what is promised: they say which step it is.
 fn pass_literal(
     text: &[u8],
     frame: Frame,
