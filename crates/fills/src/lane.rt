@@ -1,5 +1,6 @@
 // The lane: literal text and placeholders, one after another, each part written as soon as it is read. It stops where the text ends, where something is wrong,
 // and where it does not tell what stands there, which in the other modes than Format is every spec. No struct is lent from inside its loop to a call that stays one (docs/SPEED.md).
+use crate::literal::literal_end;
 use crate::wrongs::put_wrongs;
 use frame::Frame;
 use frame::Mode;
@@ -19,7 +20,6 @@ ghost use Prim.Native.Nat.{_+_, _*_, _≤_, _<_};
 ghost use lib.ListN.{length, getD};
 ghost use Rattle.frame.specs.Bounds.{Small};
 ghost use Rattle.frame.specs.declared.Mode.{Mode as Modes};
-ghost use Rattle.scan.specs.Characters.{textEnd};
 ghost use Rattle.reading.specs.Lists.{piecesOf};
 ghost use Rattle.reading.specs.Steps.{stepAt};
 ghost use Rattle.reading.specs.declared.Step.{Step as Steps};
@@ -145,19 +145,6 @@ fn pass_brace(
         state: after_told(state, told),
         given: spec.given,
     }
-}
-
-// The end of the literal text at a place within the text. A short one is passed here, and only a long one takes a call.
-fn literal_end(text: &[u8], at: TextPlace) -> TextPlace
-    requires { ⌜ at .0 < length (now text) ⌝ }
-    ensures { λ r. ⌜ r ≡ textEnd (now (text .entry)) at ⌝ }
-{
-    let i = at.0;
-    let near = scan::brace_before(text, scan::after_eight(text, i), i + 16);
-    if near < i + 16 {
-        return TextPlace(near);
-    }
-    scan::string_end(quick::whole(text), TextPlace(near))
 }
 
 // The step where reading stands: passed where it is literal text, or a placeholder that `flawless` tells.

@@ -1,2 +1,3 @@
 -- Laws that the proofs of `flawless` share.
 pub mod Closing
+pub mod Shortening

@@ -1,2 +1,3 @@
--- How a placeholder ends in which nothing is wrong.
+-- How a placeholder ends in which nothing is wrong, and what a short spec tells.
 pub mod Closed
+pub mod Short

@@ -1,11 +1,13 @@
 // A placeholder of Format mode in which nothing is wrong, told and written, each part as soon as it is told: most of what templates hold. It leaves off at the
 // first part that is another: a count by an argument, a name or a star, a dot with no count behind it, a number of five digits, `x?`, `r#`, the word `_`, whitespace, a closing
 // brace that is missing. `told` tells most of these.
+pub mod short; // short.rt: specs that are counts alone, or a word alone
+
+use crate::short::left_spec;
+use crate::short::put_spec;
+use crate::short::short_spec;
 use frame::Frame;
 use frame::TextPlace;
-use placeholder::Align;
-use placeholder::Hex;
-use placeholder::Sign;
 use quick::PartTold;
 use quick::PlaceholderTold;
 use quick::SignHint;
@@ -99,35 +101,8 @@ fn ends(text: &[u8], zero: bool, from: usize, width: PartTold, typed: TypeTold) 
     utf8::byte(text, typed.end) == b'}'
 }
 
-// Where a spec leaves off.
-fn left_spec(at: usize) -> SpecTold
-    ensures { λ r. ⌜ (r .ok ≡ false) × (r .typed .end ≡ at) ⌝ }
-{
-    SpecTold {
-        ok: false,
-        fill: at,
-        align: Align::Unknown,
-        sign: Sign::Absent,
-        alternate: false,
-        zero: false,
-        from: at,
-        word: at,
-        width: quick::nothing(at),
-        precision: quick::nothing(at),
-        typed: TypeTold {
-            ok: false,
-            hex: Hex::Absent,
-            word: false,
-            blank: false,
-            from: at,
-            end: at,
-        },
-        given: 0,
-    }
-}
-
-// The spec from after its colon, told and written, up to its closing brace. Its marks are read as in `told`, in place: a call for both would stay a call.
-fn write_spec(
+// Any spec from after its colon, told and written, up to its closing brace. Its marks are read as in `told`, in place: a call for both would stay a call.
+fn write_any_spec(
     out: &mut [u32],
     k: usize,
     text: &[u8],
@@ -182,6 +157,26 @@ fn write_spec(
         typed,
         given: quick::given_back(text, from, word, width),
     }
+}
+
+// The spec from after its colon: a short one is told and then written, another is written as it is told.
+fn write_spec(
+    out: &mut [u32],
+    k: usize,
+    text: &[u8],
+    frame: Frame,
+    at: usize,
+    next: usize,
+) -> SpecTold
+    requires { ⌜ Small (now text) frame × Room (now text) at × (k + 32 ≤ length (now out)) ⌝ }
+    ensures { λ r. ⌜ SpecKnown (now (text .entry)) at r × SpecEnds (now (text .entry)) r × Put (r .ok ≡ true) k 32 (specWords (specOf (now (text .entry)) frame at next r)) (now (out .entry)) (now (out .exit)) ⌝ }
+{
+    let short = short_spec(text, at);
+    if short.ok {
+        put_spec(out, k, text, frame, at, next, short);
+        return short;
+    }
+    write_any_spec(out, k, text, frame, at, next)
 }
 
 // Where a placeholder leaves off.

@@ -150,7 +150,7 @@ pub fn string_end(text: &[u8], at: TextPlace) -> TextPlace
 }
 
 // The place after eight bytes without a brace at `at`; the same place where one is among them, or fewer are left.
-pub fn after_eight(text: &[u8], at: usize) -> usize
+fn after_eight(text: &[u8], at: usize) -> usize
     requires { ⌜ at ≤ length (now text) ⌝ }
     ensures { λ r. ⌜ (runEnd isPlain (now (text .entry)) r ≡ runEnd isPlain (now (text .entry)) at) × (r ≤ length (now (text .entry))) ⌝ }
 {
@@ -220,7 +220,7 @@ fn plains(text: &[u8], at: usize) -> u8
 }
 
 // 0 for a brace, else 1: a number, so that many of them are summed at once.
-fn plain(b: u8) -> u8
+pub fn plain(b: u8) -> u8
     ensures { λ r. ⌜ (r ≡ one (isPlain b)) × (r ≤ 1) ⌝ }
 {
     if b == 0x7B {

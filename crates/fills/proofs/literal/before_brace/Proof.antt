@@ -1,0 +1,98 @@
+-- `fills::literal::before_brace` meets its contract: each byte that is no brace is passed, and the first brace ends the text.
+use borrow.Author.Needs.{needs}
+use Prim.Native.Nat.{_+_}
+use mathlib.Core.Path.{sym, _∙_}
+use native.Mathlib.Omega.{arith}
+use denote.Ref.{now}
+use Rattle.fills.proofs.Literals.{Plain, plain-none, plain-more, plain-stop}
+use Rattle.fills.proofs.literal.before_brace.Statement.{statement}
+use Rattle.fills.proofs.literal.before_brace.Tie as tie
+
+shared-slice-read-plain : tie.Need-shared-slice-read-plain
+shared-slice-read-plain c = search needs
+
+plain-requires : tie.Need-plain-requires
+plain-requires c κs = search needs
+
+returns : tie.Need-returns
+returns c =
+    let a = c .before .before .before .before .args in
+    let h = c .before .before .before .before .pre in
+    let p : Plain (now (a .text)) (a .at) 0 = plain-none in
+    ((p .on, omega arith), λ _. plain-stop p (a .at) (omega arith) (omega (arith, h)) (sym (c .before .plain .ensures .0) ∙ c .if1 .taken))
+
+add-plain : tie.Need-add-plain
+add-plain c = search needs
+
+shared-slice-read-plain-2 : tie.Need-shared-slice-read-plain-2
+shared-slice-read-plain-2 c = search needs
+
+plain-requires-2 : tie.Need-plain-requires-2
+plain-requires-2 c κs = search needs
+
+returns-2 : tie.Need-returns-2
+returns-2 c =
+    let a = c .before .before .before .before .before .before .before .args in
+    let h = c .before .before .before .before .before .before .before .pre in
+    let p : Plain (now (a .text)) (a .at) 1 = plain-more (plain-none) (a .at) (omega arith) (omega (arith, h)) (λ z. c .before .before .before .if1 .left (c .before .before .before .before .plain .ensures .0 ∙ z)) in
+    ((p .on, omega arith), λ _. plain-stop p (a .at + 1) (omega arith) (omega (arith, h)) (sym (c .before .plain2 .ensures .0) ∙ c .if2 .taken))
+
+add-plain-2 : tie.Need-add-plain-2
+add-plain-2 c = search needs
+
+shared-slice-read-plain-3 : tie.Need-shared-slice-read-plain-3
+shared-slice-read-plain-3 c = search needs
+
+plain-requires-3 : tie.Need-plain-requires-3
+plain-requires-3 c κs = search needs
+
+returns-3 : tie.Need-returns-3
+returns-3 c =
+    let a = c .before .before .before .before .before .before .before .before .before .before .args in
+    let h = c .before .before .before .before .before .before .before .before .before .before .pre in
+    let p : Plain (now (a .text)) (a .at) 2 = plain-more (plain-more (plain-none) (a .at) (omega arith) (omega (arith, h)) (λ z. c .before .before .before .before .before .before .if1 .left (c .before .before .before .before .before .before .before .plain .ensures .0 ∙ z))) (a .at + 1) (omega arith) (omega (arith, h)) (λ z. c .before .before .before .if2 .left (c .before .before .before .before .plain2 .ensures .0 ∙ z)) in
+    ((p .on, omega arith), λ _. plain-stop p (a .at + 2) (omega arith) (omega (arith, h)) (sym (c .before .plain3 .ensures .0) ∙ c .if3 .taken))
+
+add-plain-3 : tie.Need-add-plain-3
+add-plain-3 c = search needs
+
+shared-slice-read-plain-4 : tie.Need-shared-slice-read-plain-4
+shared-slice-read-plain-4 c = search needs
+
+plain-requires-4 : tie.Need-plain-requires-4
+plain-requires-4 c κs = search needs
+
+returns-4 : tie.Need-returns-4
+returns-4 c =
+    let a = c .before .before .before .before .before .before .before .before .before .before .before .before .before .args in
+    let h = c .before .before .before .before .before .before .before .before .before .before .before .before .before .pre in
+    let p : Plain (now (a .text)) (a .at) 3 = plain-more (plain-more (plain-more (plain-none) (a .at) (omega arith) (omega (arith, h)) (λ z. c .before .before .before .before .before .before .before .before .before .if1 .left (c .before .before .before .before .before .before .before .before .before .before .plain .ensures .0 ∙ z))) (a .at + 1) (omega arith) (omega (arith, h)) (λ z. c .before .before .before .before .before .before .if2 .left (c .before .before .before .before .before .before .before .plain2 .ensures .0 ∙ z))) (a .at + 2) (omega arith) (omega (arith, h)) (λ z. c .before .before .before .if3 .left (c .before .before .before .before .plain3 .ensures .0 ∙ z)) in
+    ((p .on, omega arith), λ _. plain-stop p (a .at + 3) (omega arith) (omega (arith, h)) (sym (c .before .plain4 .ensures .0) ∙ c .if4 .taken))
+
+returns-5 : tie.Need-returns-5
+returns-5 c =
+    let a = c .before .before .before .before .before .before .before .before .before .before .before .before .before .args in
+    let h = c .before .before .before .before .before .before .before .before .before .before .before .before .before .pre in
+    let p : Plain (now (a .text)) (a .at) 4 = plain-more (plain-more (plain-more (plain-more (plain-none) (a .at) (omega arith) (omega (arith, h)) (λ z. c .before .before .before .before .before .before .before .before .before .if1 .left (c .before .before .before .before .before .before .before .before .before .before .plain .ensures .0 ∙ z))) (a .at + 1) (omega arith) (omega (arith, h)) (λ z. c .before .before .before .before .before .before .if2 .left (c .before .before .before .before .before .before .before .plain2 .ensures .0 ∙ z))) (a .at + 2) (omega arith) (omega (arith, h)) (λ z. c .before .before .before .if3 .left (c .before .before .before .before .plain3 .ensures .0 ∙ z))) (a .at + 3) (omega arith) (omega (arith, h)) (λ z. c .if4 .left (c .before .plain4 .ensures .0 ∙ z)) in
+    ((p .on, omega arith), λ l. absurd (omega (arith, l)))
+
+pub before-brace-spec : {M : Type 1} → statement M
+before-brace-spec =
+    tie.close
+    (tie.spec
+    shared-slice-read-plain
+    plain-requires
+    returns
+    add-plain
+    shared-slice-read-plain-2
+    plain-requires-2
+    returns-2
+    add-plain-2
+    shared-slice-read-plain-3
+    plain-requires-3
+    returns-3
+    add-plain-3
+    shared-slice-read-plain-4
+    plain-requires-4
+    returns-4
+    returns-5)
