@@ -1,7 +1,6 @@
 -- Literal text, byte by byte: how far it goes is told by the bytes without a brace that were passed. Rests on `utf8`'s laws of runs and `scan`'s plain characters.
 use Prim.Native.Nat.{ℕ, _+_, _≤_, _<_}
-use mathlib.Core.Path.{_≡_, refl, sym, _∙_, ap}
-use mathlib.Core.Bool.{true, false}
+use mathlib.Core.Path.{_≡_, sym, _∙_, ap}
 use mathlib.Core.List.{List}
 use native.Mathlib.Omega.{arith}
 use lib.ListN.{length, getD}
@@ -32,5 +31,5 @@ module _ {t : List ℕ} {at : ℕ} where
     plain-stop z = sym e ∙ sym (byte-stop isPlain plain-high t i h (one-none _ z)) ∙ ap (runEnd isPlain t) e ∙ p .on
 
 -- no brace among four
-pub plain-four : (t : List ℕ) (at r to : ℕ) → runEnd isPlain t (at + r) ≡ runEnd isPlain t at → r ≤ 4 → 4 ≤ r → to ≡ at + 4 → runEnd isPlain t to ≡ runEnd isPlain t at
-plain-four t at r to p h n e = let four : at + r ≡ to = omega (arith, h, n, e) in rw four at p
+pub plain-four : (t : List ℕ) (at r to : ℕ) → (runEnd isPlain t (at + r) ≡ runEnd isPlain t at) × (r ≤ 4) → 4 ≤ r → to ≡ at + 4 → runEnd isPlain t to ≡ runEnd isPlain t at
+plain-four t at r to p n e = let four : at + r ≡ to = omega (arith, p .1, n, e) in rw four at (p .0)

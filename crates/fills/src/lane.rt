@@ -1,4 +1,4 @@
-// The lane: literal text and placeholders, one after another, each part written as soon as it is read. It stops where the text ends, where something is wrong,
+// The lane: literal text and placeholders, one after another, each written as soon as it is read. It stops where the text ends, where something is wrong,
 // and where it does not tell what stands there, which in the other modes than Format is every spec. No struct is lent from inside its loop to a call that stays one (docs/SPEED.md).
 use crate::literal::literal_end;
 use crate::wrongs::put_wrongs;
@@ -93,7 +93,7 @@ fn pass_doubled(
 {
     let i = state.at.0;
     let start = TextPlace(i + 1);
-    let end = scan::string_end(quick::whole(text), TextPlace(i + 2));
+    let end = scan::string_end(utf8::whole(text), TextPlace(i + 2));
     pass_literal(
         text,
         frame,
@@ -265,7 +265,7 @@ pub fn lane_in(
     requires { ⌜ Small (now text) frame × LaneRoom (now text) frame mode state n (now pieces) ⌝ }
     ensures { λ r. ⌜ LaneRan (now (text .entry)) frame mode state n (now (pieces .entry)) r (now (pieces .exit)) ⌝ }
 {
-    lane(quick::whole(text), own_frame(frame), mode, state, n, pieces)
+    lane(utf8::whole(text), own_frame(frame), mode, state, n, pieces)
 }
 
 // Whether a placeholder of Format mode stands at a byte of the text: a brace, and not two.
@@ -301,7 +301,7 @@ fn write_open(
     let told = write_placeholder(&mut *pieces, extent.pieces, text, frame, i, state.next);
     if !told.ok {
         return write_step(
-            quick::whole(text),
+            utf8::whole(text),
             own_frame(frame),
             Mode::Format,
             own_state(state),
@@ -337,7 +337,7 @@ pub fn write_left(
         return write_open(text, frame, state, pieces, errors, extent);
     }
     write_step(
-        quick::whole(text),
+        utf8::whole(text),
         own_frame(frame),
         mode,
         own_state(state),

@@ -8,8 +8,8 @@ ghost use Rattle.utf8.specs.Chars.{runEnd};
 ghost use Rattle.frame.specs.Places.{place};
 ghost use Rattle.scan.specs.Characters.{isPlain, textEnd};
 
-// How many of the four bytes at `at` stand before the first brace among them.
-fn before_brace(text: &[u8], at: usize) -> usize
+// How many of the four bytes at `at` stand before the first brace among them; four where there is none.
+fn plain_of_four(text: &[u8], at: usize) -> usize
     requires { ⌜ at + 4 ≤ length (now text) ⌝ }
     ensures { λ r. ⌜ (runEnd isPlain (now (text .entry)) (at + r) ≡ runEnd isPlain (now (text .entry)) at) × (r ≤ 4) ⌝ }
     ensures { λ r. ⌜ (r < 4 → at + r ≡ runEnd isPlain (now (text .entry)) at) ⌝ }
@@ -29,28 +29,28 @@ fn before_brace(text: &[u8], at: usize) -> usize
     4
 }
 
-// The end of the literal text at a place behind which sixteen bytes are left.
-fn near_end(text: &[u8], at: usize) -> TextPlace
+// The end of the literal text at a place from which on sixteen bytes are left.
+fn end_by_fours(text: &[u8], at: usize) -> TextPlace
     requires { ⌜ at + 16 ≤ length (now text) ⌝ }
     ensures { λ r. ⌜ r ≡ textEnd (now (text .entry)) (place at) ⌝ }
 {
-    let n = before_brace(text, at);
+    let n = plain_of_four(text, at);
     if n < 4 {
         return TextPlace(at + n);
     }
-    let n = before_brace(text, at + 4);
+    let n = plain_of_four(text, at + 4);
     if n < 4 {
         return TextPlace(at + 4 + n);
     }
-    let n = before_brace(text, at + 8);
+    let n = plain_of_four(text, at + 8);
     if n < 4 {
         return TextPlace(at + 8 + n);
     }
-    let n = before_brace(text, at + 12);
+    let n = plain_of_four(text, at + 12);
     if n < 4 {
         return TextPlace(at + 12 + n);
     }
-    scan::string_end(quick::whole(text), TextPlace(at + 16))
+    scan::string_end(utf8::whole(text), TextPlace(at + 16))
 }
 
 // The end of the literal text at a place within the text.
@@ -60,7 +60,7 @@ pub fn literal_end(text: &[u8], at: TextPlace) -> TextPlace
 {
     let i = at.0;
     if i + 16 <= text.len() {
-        return near_end(text, i);
+        return end_by_fours(text, i);
     }
     TextPlace(scan::brace_before(text, i, i + 16))
 }

@@ -5,9 +5,8 @@ use mathlib.Core.Bool.{Bool, true, false, true≢false}
 use mathlib.Core.List.{List}
 use native.Mathlib.Omega.{arith}
 use borrow.Author.Tests.{eqb-true, ne-eqb}
-use lib.Dec.{eqb}
 use lib.ListN.{length, getD}
-use Rattle.utf8.specs.Choice.{pick, either, within}
+use Rattle.utf8.specs.Choice.{pick, within}
 use Rattle.utf8.specs.ChoiceLaws.{not-so, either-true, in-within}
 use Rattle.utf8.specs.CharLaws.{ascii-char}
 use Rattle.letters.specs.Ascii.{asciiStart, asciiContinue}
@@ -20,20 +19,18 @@ use Rattle.scan.specs.declared.Consumed.{Consumed}
 use Rattle.placeholder.specs.Parts.{alignRead, signRead}
 use Rattle.placeholder.specs.declared.Align.{Align}
 use Rattle.placeholder.specs.declared.Sign.{Sign}
-use Rattle.placeholder.specs.declared.format.AlignRead.{AlignRead}
-use Rattle.placeholder.specs.declared.format.SignRead.{SignRead}
 use Rattle.quick.specs.declared.PartTold.{PartTold}
 use Rattle.quick.specs.declared.SpecTold.{SpecTold}
 use Rattle.quick.specs.declared.TypeTold.{TypeTold}
 use Rattle.quick.specs.declared.WordTold.{WordTold}
 use Rattle.quick.specs.Tellings.{backOf}
-use Rattle.quick.specs.PartsTold.{Room, Known, part, alignByte, signByte, blankWord, typeWord, typeNone, WordKnown, NumberTold, FillTold, WidthTold, PrecisionTold, TypeKnown, AllTold, SpecKnown}
+use Rattle.quick.specs.PartsTold.{Room, Known, alignByte, signByte, blankWord, typeWord, typeNone, WordKnown, NumberTold, FillTold, WidthTold, PrecisionTold, TypeKnown, SpecKnown}
 use Rattle.quick.proofs.Bytes.{lacks, digit-range, no-chars}
 use Rattle.quick.proofs.Numbers.{spelt-none, spelt-more, spelt-stop}
 use Rattle.quick.proofs.Parts.{none, unknown, count-fixed, width-count, width-none, precision-none, precision-width, fill-none, type-named}
 use Rattle.quick.proofs.Specs.{Marks, spec-known}
 use Rattle.flawless.specs.Closed.{SpecEnds}
-use Rattle.flawless.specs.Short.{LoneWidth, LonePrecision, loneSpec, ShortTold}
+use Rattle.flawless.specs.Short.{ShortWidth, ShortPrecision, shortSpec, ShortTold}
 use Rattle.flawless.proofs.Closing.{no-blank, type-none}
 
 -- A BYTE THAT IS NO MARK: no align, no sign, neither `#` nor `0`
@@ -46,9 +43,9 @@ record Unmarked (b : ℕ) : Type 0 where
   pub hash : b ≡ 0x23 → ⊥
   pub flag : b ≡ 0x30 → ⊥
 
--- what counts begin with, a dot or a digit that is not `0`
-count-unmarked : {b : ℕ} → b ≡ 0x2E → Unmarked b
-count-unmarked e =
+-- what counts begin with, a dot
+dot-unmarked : {b : ℕ} → b ≡ 0x2E → Unmarked b
+dot-unmarked e =
     record {
       left = λ q. omega (arith, e, q);
       right = λ q. omega (arith, e, q);
@@ -59,6 +56,7 @@ count-unmarked e =
       flag = λ q. omega (arith, e, q);
     }
 
+-- or a digit that is not `0`
 digit-unmarked : {b : ℕ} → 0x31 ≤ b → b ≤ 0x39 → Unmarked b
 digit-unmarked l h =
     record {
@@ -117,14 +115,14 @@ module _ (t : List ℕ) (at : ℕ) (u : Unmarked (getD t at 0)) where
 
 -- A SPEC WITHOUT FILL OR MARKS is what its parts tell
 module _ {t : List ℕ} {at word given : ℕ} {w p : PartTold} {k : TypeTold} where
-  lone-known : Unmarked (getD t at 0) → FillTold t at at → WidthTold t at word w → given ≡ backOf t at word w → PrecisionTold t (w .end) 0 p → TypeKnown t (p .end) k →
-      Known w → Known p → k .ok ≡ true → SpecKnown t at (loneSpec t at word w p k given)
-  lone-known u f wi g pr ty a b o =
+  short-known : Unmarked (getD t at 0) → FillTold t at at → WidthTold t at word w → given ≡ backOf t at word w → PrecisionTold t (w .end) 0 p → TypeKnown t (p .end) k →
+      Known w → Known p → k .ok ≡ true → SpecKnown t at (shortSpec t at word w p k given)
+  short-known u f wi g pr ty a b o =
       spec-known (unmarked t at u) f wi g pr (omega arith) ty (λ _. record { flag = λ z. absurd (true≢false (sym z)); wide = a; precise = b; typed = o })
 
   -- and ends at its closing brace
-  lone-ends : w .blank ≡ false → k .blank ≡ false → SpecEnds t (loneSpec t at word w p k given)
-  lone-ends a b = record { wide = λ _. a; named = λ _. b; brace = λ y. eqb-true (getD t (k .end) 0) 0x7D y }
+  short-ends : w .blank ≡ false → k .blank ≡ false → SpecEnds t (shortSpec t at word w p k given)
+  short-ends a b = record { wide = λ _. a; named = λ _. b; brace = λ y. eqb-true (getD t (k .end) 0) 0x7D y }
 
 -- an ASCII character with no align behind it is no fill
 no-fill : (t : List ℕ) (at : ℕ) → 0 < getD t at 0 → getD t at 0 < 0x80 → alignByte (getD t (at + 1) 0) ≡ false → FillTold t at at
@@ -210,9 +208,9 @@ module _ {t : List ℕ} {at : ℕ} (r : Room t at) where
         rw (no-blank (getD t at 0) at at (λ _ q. omega (arith, q))) at
         (width-none dot-digit word-here (λ l _. omega (arith, l)) (r .within))
 
-    dotted : SpecKnown t at (loneSpec t at at (none at) p (typeNone (p .end)) 0)
+    dotted : SpecKnown t at (shortSpec t at at (none at) p (typeNone (p .end)) 0)
     dotted =
-        lone-known (count-unmarked dot) (no-fill t at (omega (arith, dot)) (omega (arith, dot)) (digit-align (getD t (at + 1) 0) d)) no-width (sym (back-none t at)) (told-precision one n dot d brace)
+        short-known (dot-unmarked dot) (no-fill t at (omega (arith, dot)) (omega (arith, dot)) (digit-align (getD t (at + 1) 0) d)) no-width (sym (back-none t at)) (told-precision one n dot d brace)
         (type-none brace (n .inside)) (λ q. omega (arith, q)) (λ q. omega (arith, one, q)) refl
 
   -- a width
@@ -230,25 +228,25 @@ module _ {t : List ℕ} {at : ℕ} (r : Room t at) where
     width-fill e = no-fill t at (omega (arith, l)) (omega (arith, h)) (number-align r digit n width-known e)
 
     -- alone
-    widened : getD t (w .end) 0 ≡ 0x7D → SpecKnown t at (loneSpec t at at w (none (w .end)) (typeNone (w .end)) 0)
+    widened : getD t (w .end) 0 ≡ 0x7D → SpecKnown t at (shortSpec t at at w (none (w .end)) (typeNone (w .end)) 0)
     widened brace =
-        lone-known (digit-unmarked l h) (width-fill (not-align (λ q. omega (arith, brace, q)) (λ q. omega (arith, brace, q)) (λ q. omega (arith, brace, q))))
+        short-known (digit-unmarked l h) (width-fill (not-align (λ q. omega (arith, brace, q)) (λ q. omega (arith, brace, q)) (λ q. omega (arith, brace, q))))
         (told-width (λ q. omega (arith, brace, q))) (sym (back-number t at at w one)) (precision-none (λ q. omega (arith, brace, q)) (n .inside)) (type-none brace (n .inside))
         width-known (λ q. omega (arith, q)) refl
 
     -- and a precision
     widened-precise : {p : PartTold} → p .tag ≡ 1 → NumberTold t (w .end + 1) p → getD t (w .end) 0 ≡ 0x2E → isDigit (getD t (w .end + 1) 0) ≡ true →
-        getD t (p .end) 0 ≡ 0x7D → SpecKnown t at (loneSpec t at at w p (typeNone (p .end)) 0)
+        getD t (p .end) 0 ≡ 0x7D → SpecKnown t at (shortSpec t at at w p (typeNone (p .end)) 0)
     widened-precise o m dot d brace =
-        lone-known (digit-unmarked l h) (width-fill (unmarked-align (count-unmarked dot))) (told-width (λ q. omega (arith, dot, q))) (sym (back-number t at at w one))
+        short-known (digit-unmarked l h) (width-fill (unmarked-align (dot-unmarked dot))) (told-width (λ q. omega (arith, dot, q))) (sym (back-number t at at w one))
         (told-precision o m dot d brace) (type-none brace (m .inside)) width-known (λ q. omega (arith, o, q)) refl
 
   -- either
-  pub counts-told : {w p : PartTold} → LoneWidth t at w → w .tag ≤ 1 → LonePrecision t (w .end) p → p .tag ≤ 1 → ShortTold t at (loneSpec t at at w p (typeNone (p .end)) 0)
+  pub counts-told : {w p : PartTold} → ShortWidth t at w → w .tag ≤ 1 → ShortPrecision t (w .end) p → p .tag ≤ 1 → ShortTold t at (shortSpec t at at w p (typeNone (p .end)) 0)
   counts-told {w} {p} a x b z =
       record {
         known = λ y. go (w .tag) refl x (p .tag) refl z (eqb-true (getD t (p .end) 0) 0x7D y);
-        ends = lone-ends (whole (w .tag) refl x) refl;
+        ends = short-ends (whole (w .tag) refl x) refl;
         wide = λ _. x;
         precise = λ _. z;
       }
@@ -258,7 +256,7 @@ module _ {t : List ℕ} {at : ℕ} (r : Room t at) where
       whole (suc zero) e _ = a .number e .0 .whole
       whole (suc (suc i)) e l = absurd (omega (arith, l))
 
-      go : (i : ℕ) → w .tag ≡ i → i ≤ 1 → (j : ℕ) → p .tag ≡ j → j ≤ 1 → getD t (p .end) 0 ≡ 0x7D → SpecKnown t at (loneSpec t at at w p (typeNone (p .end)) 0)
+      go : (i : ℕ) → w .tag ≡ i → i ≤ 1 → (j : ℕ) → p .tag ≡ j → j ≤ 1 → getD t (p .end) 0 ≡ 0x7D → SpecKnown t at (shortSpec t at at w p (typeNone (p .end)) 0)
       go zero e _ zero f _ brace = absurd (b .none f .1 (rw (a .none e .0) (a .none e .1)))
       go zero e _ (suc zero) f _ brace =
           let n = rw (a .none e .0) at (b .number f) in
@@ -307,39 +305,57 @@ module _ {t : List ℕ} {at b : ℕ} (r : Room t at) (e : b ≡ getD t at 0) (y 
     blank : blankWord b at (w .end) ≡ false
     blank = no-blank b at (w .end) (λ q _. u q)
 
-    word-known : getD t (w .end) 0 ≡ 0x7D → SpecKnown t at (loneSpec t at (w .end) (none at) (none at) (typeWord b at (w .end)) g)
+    word-known : getD t (w .end) 0 ≡ 0x7D → SpecKnown t at (shortSpec t at (w .end) (none at) (none at) (typeWord b at (w .end)) g)
     word-known brace =
-        lone-known (rw e at (start-unmarked y)) (word-fill brace)
+        short-known (rw e at (start-unmarked y)) (word-fill brace)
         (rw (← e, blank) at (width-none word-digit (k .ends) (λ _ q. omega (arith, brace, q)) (r .within)))
         given (precision-none word-dot (r .within)) (rw (← e) at (type-named (rw e at s) (k .ends) (r .within)))
         (λ q. omega (arith, q)) (λ q. omega (arith, q)) refl
 
-    pub word-told : ShortTold t at (loneSpec t at (w .end) (none at) (none at) (typeWord b at (w .end)) g)
+    pub word-told : ShortTold t at (shortSpec t at (w .end) (none at) (none at) (typeWord b at (w .end)) g)
     word-told =
         record {
           known = λ z. word-known (eqb-true (getD t (w .end) 0) 0x7D z);
-          ends = lone-ends refl blank;
+          ends = short-ends refl blank;
           wide = λ _. omega arith;
           precise = λ _. omega arith;
         }
 
 -- WHAT THE PARTS TELL: a width
-pub width-dot : {t : List ℕ} {at : ℕ} → at ≤ length t → getD t at 0 ≡ 0x2E → LoneWidth t at (none at)
-width-dot h dot = record { none = λ _. (refl, dot); number = λ q. absurd (omega (arith, q)); inside = λ _. h }
+pub width-dot : {t : List ℕ} {at : ℕ} → getD t at 0 ≡ 0x2E → ShortWidth t at (none at)
+width-dot dot = record { most = λ _. omega arith; none = λ _. (refl, dot); number = λ q. absurd (omega (arith, q)) }
 
-pub width-untold : {t : List ℕ} {at : ℕ} → LoneWidth t at (unknown at)
-width-untold = record { none = λ q. absurd (omega (arith, q)); number = λ q. absurd (omega (arith, q)); inside = λ q. absurd (omega (arith, q)) }
+pub width-untold : {t : List ℕ} {at : ℕ} → ShortWidth t at (unknown at)
+width-untold = record { most = λ k. absurd (k refl); none = λ q. absurd (omega (arith, q)); number = λ q. absurd (omega (arith, q)) }
 
-pub width-number : {t : List ℕ} {at : ℕ} {p : PartTold} → NumberTold t at p → 0x31 ≤ getD t at 0 → getD t at 0 ≤ 0x39 → LoneWidth t at p
+pub width-number : {t : List ℕ} {at : ℕ} {p : PartTold} → NumberTold t at p → 0x31 ≤ getD t at 0 → getD t at 0 ≤ 0x39 → ShortWidth t at p
 width-number n l h =
-    record { none = λ q. absurd (omega (arith, q, n .one (λ z. omega (arith, q, z)))); number = λ _. (n, l, h); inside = λ _. n .inside }
+    record {
+      most = λ k. omega (arith, n .one k);
+      none = λ q. absurd (omega (arith, q, n .one (λ z. omega (arith, q, z))));
+      number = λ _. (n, l, h);
+    }
+
+-- which ends within the text
+pub width-inside : {t : List ℕ} {at : ℕ} {p : PartTold} → Room t at → ShortWidth t at p → p .tag ≤ 1 → p .end ≤ length t
+width-inside {t} {at} {p} r w h = go (p .tag) refl h
+  where
+    go : (i : ℕ) → p .tag ≡ i → i ≤ 1 → p .end ≤ length t
+    go zero e _ = rw (w .none e .0) (r .within)
+    go (suc zero) e _ = w .number e .0 .inside
+    go (suc (suc i)) e l = absurd (omega (arith, l))
 
 -- and a precision
-pub precision-absent : {t : List ℕ} {at : ℕ} → (getD t at 0 ≡ 0x2E → ⊥) → LonePrecision t at (none at)
-precision-absent d = record { none = λ _. (refl, d); number = λ q. absurd (omega (arith, q)) }
+pub precision-absent : {t : List ℕ} {at : ℕ} → (getD t at 0 ≡ 0x2E → ⊥) → ShortPrecision t at (none at)
+precision-absent d = record { most = λ _. omega arith; none = λ _. (refl, d); number = λ q. absurd (omega (arith, q)) }
 
-pub precision-untold : {t : List ℕ} {at : ℕ} → LonePrecision t at (unknown at)
-precision-untold = record { none = λ q. absurd (omega (arith, q)); number = λ q. absurd (omega (arith, q)) }
+pub precision-untold : {t : List ℕ} {at : ℕ} → ShortPrecision t at (unknown at)
+precision-untold = record { most = λ k. absurd (k refl); none = λ q. absurd (omega (arith, q)); number = λ q. absurd (omega (arith, q)) }
 
-pub precision-number : {t : List ℕ} {at : ℕ} {p : PartTold} → NumberTold t (at + 1) p → getD t at 0 ≡ 0x2E → isDigit (getD t (at + 1) 0) ≡ true → LonePrecision t at p
-precision-number n dot d = record { none = λ q. absurd (omega (arith, q, n .one (λ z. omega (arith, q, z)))); number = λ _. (n, dot, d) }
+pub precision-number : {t : List ℕ} {at : ℕ} {p : PartTold} → NumberTold t (at + 1) p → getD t at 0 ≡ 0x2E → isDigit (getD t (at + 1) 0) ≡ true → ShortPrecision t at p
+precision-number n dot d =
+    record {
+      most = λ k. omega (arith, n .one k);
+      none = λ q. absurd (omega (arith, q, n .one (λ z. omega (arith, q, z))));
+      number = λ _. (n, dot, d);
+    }

@@ -1,10 +1,10 @@
-// A placeholder of Format mode in which nothing is wrong, told and written, each part as soon as it is told: most of what templates hold. It leaves off at the
+// A placeholder of Format mode in which nothing is wrong, told and written, a short spec as a whole and any other part as soon as it is told: most of what templates hold. It leaves off at the
 // first part that is another: a count by an argument, a name or a star, a dot with no count behind it, a number of five digits, `x?`, `r#`, the word `_`, whitespace, a closing
 // brace that is missing. `told` tells most of these.
-pub mod short; // short.rt: specs that are counts alone, or a word alone
+mod short; // short.rt: specs that are counts alone, or a word alone
 
 use crate::short::left_spec;
-use crate::short::put_spec;
+use crate::short::put_told_spec;
 use crate::short::short_spec;
 use frame::Frame;
 use frame::TextPlace;
@@ -173,7 +173,7 @@ fn write_spec(
 {
     let short = short_spec(text, at);
     if short.ok {
-        put_spec(out, k, text, frame, at, next, short);
+        put_told_spec(out, k, text, frame, at, next, short);
         return short;
     }
     write_any_spec(out, k, text, frame, at, next)

@@ -1,5 +1,5 @@
-// Short specs, which most templates have: counts alone, as `.2` and `10.3`, or a word alone, as `e`; no fill, no mark before them and nothing after. Such a spec is told
-// by its few bytes before any number of it is written.
+// Short specs: counts alone, as `.2` and `10.3`, or a word alone, as `e`; no fill, no mark before them and nothing after. Such a spec is told by its few bytes before any
+// number of it is written.
 use frame::Frame;
 use placeholder::Align;
 use placeholder::Hex;
@@ -22,11 +22,11 @@ ghost use Rattle.letters.specs.Ascii.{asciiStart};
 ghost use Rattle.frame.specs.Bounds.{Small};
 ghost use Rattle.quick.specs.Tellings.{specOf};
 ghost use Rattle.quick.specs.PartsTold.{Room};
+ghost use Rattle.words.specs.Laid.{laid};
 ghost use Rattle.words.specs.Layout.{specWords};
-ghost use Rattle.told.specs.Told.{Put};
-ghost use Rattle.flawless.specs.Short.{LoneWidth, LonePrecision, loneSpec, ShortTold};
+ghost use Rattle.flawless.specs.Short.{ShortWidth, ShortPrecision, shortSpec, ShortTold};
 
-// Where a spec leaves off.
+// A spec that is not told: it leaves off at a place.
 pub fn left_spec(at: usize) -> SpecTold
     ensures { λ r. ⌜ (r .ok ≡ false) × (r .typed .end ≡ at) ⌝ }
 {
@@ -54,9 +54,9 @@ pub fn left_spec(at: usize) -> SpecTold
 }
 
 // The width of counts alone: none where they begin with the dot, else a number that does not begin with `0`, which would be a mark.
-fn lone_width(text: &[u8], b: u8, at: usize) -> PartTold
+fn short_width(text: &[u8], b: u8, at: usize) -> PartTold
     requires { ⌜ Room (now text) at × (b ≡ getD (now text) at 0) ⌝ }
-    ensures { λ r. ⌜ LoneWidth (now (text .entry)) at r ⌝ }
+    ensures { λ r. ⌜ ShortWidth (now (text .entry)) at r ⌝ }
 {
     if b == b'.' {
         return quick::nothing(at);
@@ -71,9 +71,9 @@ fn lone_width(text: &[u8], b: u8, at: usize) -> PartTold
 }
 
 // The precision of counts alone: none, or a dot and a number.
-fn lone_precision(text: &[u8], at: usize) -> PartTold
+fn short_precision(text: &[u8], at: usize) -> PartTold
     requires { ⌜ Room (now text) at ⌝ }
-    ensures { λ r. ⌜ LonePrecision (now (text .entry)) at r ⌝ }
+    ensures { λ r. ⌜ ShortPrecision (now (text .entry)) at r ⌝ }
 {
     if utf8::byte(text, at) != b'.' {
         return quick::nothing(at);
@@ -85,7 +85,7 @@ fn lone_precision(text: &[u8], at: usize) -> PartTold
 }
 
 // A spec of these parts. It is told where its closing brace stands at its end.
-fn lone_spec(
+fn short_of(
     text: &[u8],
     at: usize,
     word: usize,
@@ -94,7 +94,7 @@ fn lone_spec(
     typed: TypeTold,
     given: usize,
 ) -> SpecTold
-    ensures { λ r. ⌜ r ≡ loneSpec (now (text .entry)) at word width precision typed given ⌝ }
+    ensures { λ r. ⌜ r ≡ shortSpec (now (text .entry)) at word width precision typed given ⌝ }
 {
     SpecTold {
         ok: utf8::byte(text, typed.end) == b'}',
@@ -117,15 +117,15 @@ fn counts_alone(text: &[u8], b: u8, at: usize) -> SpecTold
     requires { ⌜ Room (now text) at × (b ≡ getD (now text) at 0) ⌝ }
     ensures { λ r. ⌜ ShortTold (now (text .entry)) at r ⌝ }
 {
-    let width = lone_width(text, b, at);
+    let width = short_width(text, b, at);
     if 1 < width.tag {
         return left_spec(at);
     }
-    let precision = lone_precision(text, width.end);
+    let precision = short_precision(text, width.end);
     if 1 < precision.tag {
         return left_spec(at);
     }
-    lone_spec(
+    short_of(
         text,
         at,
         at,
@@ -148,7 +148,7 @@ fn word_alone(text: &[u8], b: u8, at: usize) -> SpecTold
         return left_spec(at);
     }
     let word = quick::word_at(text, at);
-    lone_spec(
+    short_of(
         text,
         at,
         word.end,
@@ -171,8 +171,8 @@ pub fn short_spec(text: &[u8], at: usize) -> SpecTold
     counts_alone(text, b, at)
 }
 
-// A spec that is told, whose counts are numbers or absent.
-pub fn put_spec(
+// A spec whose counts are numbers or absent. Of a short one the fill and the marks are known to be none, and what is left of this is zeros.
+pub fn put_told_spec(
     out: &mut [u32],
     k: usize,
     text: &[u8],
@@ -182,7 +182,7 @@ pub fn put_spec(
     spec: SpecTold,
 )
     requires { ⌜ Small (now text) frame × (k + 32 ≤ length (now out)) × (spec .width .tag ≤ 1) × (spec .precision .tag ≤ 1) ⌝ }
-    ensures { λ _. ⌜ Put (spec .ok ≡ true) k 32 (specWords (specOf (now (text .entry)) frame at next spec)) (now (out .entry)) (now (out .exit)) ⌝ }
+    ensures { λ _. ⌜ now (out .exit) ≡ laid (now (out .entry)) k (specWords (specOf (now (text .entry)) frame at next spec)) ⌝ }
 {
     let align = spec.align;
     let sign = spec.sign;

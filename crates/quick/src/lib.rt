@@ -89,13 +89,6 @@ pub struct PlaceholderTold {
     pub on: usize,
 }
 
-// The same text, lent anew: a slice that is lent to a call which stays one is kept in memory, and the lane's own is to stay in registers (docs/SPEED.md).
-pub fn whole(text: &[u8]) -> &[u8]
-    ensures { λ r. ⌜ now r ≡ now (text .entry) ⌝ }
-{
-    text
-}
-
 // Where the whitespace from `at` ends: in place where none stands there, else by a call.
 pub fn space_end(text: &[u8], at: usize) -> usize
     ensures { λ r. ⌜ r ≡ runEnd isSpace (now (text .entry)) at ⌝ }
@@ -106,7 +99,7 @@ pub fn space_end(text: &[u8], at: usize) -> usize
             return at;
         }
     }
-    letters::space_end(whole(text), at)
+    letters::space_end(utf8::whole(text), at)
 }
 
 pub fn is_digit(b: u8) -> bool
@@ -207,7 +200,7 @@ pub fn word_at(text: &[u8], at: usize) -> WordTold
             };
         }
     }
-    let end = scan::word_from(whole(text), TextPlace(at), known);
+    let end = scan::word_from(utf8::whole(text), TextPlace(at), known);
     WordTold {
         end: end.0,
         ascii: false,
@@ -234,7 +227,7 @@ pub fn given_back(text: &[u8], from: usize, word: WordTold, width: PartTold) -> 
     if word.ascii {
         return word.end - from;
     }
-    utf8::chars_between(whole(text), from, word.end)
+    utf8::chars_between(utf8::whole(text), from, word.end)
 }
 
 // The place of an argument. `r` with a `#` after it is not told.
@@ -309,7 +302,7 @@ pub fn fill_end(text: &[u8], at: usize) -> usize
         }
         return at;
     }
-    wide_fill(whole(text), at)
+    wide_fill(utf8::whole(text), at)
 }
 
 // The same for a fill that is any character.

@@ -33,7 +33,7 @@ fn after_open(
     let second = scan::consume(text, at, b'{');
     let past = second.at;
     if second.ate {
-        let end = scan::string_end(text, past);
+        let end = scan::string_end(utf8::whole(text), past);
         return Step::Literal(TextRange { start: at, end });
     }
     Step::Placeholder(closing::whole::placeholder(text, frame, mode, brace, at, next))
@@ -48,7 +48,7 @@ fn after_close(text: &[u8], brace: TextPlace, at: TextPlace) -> Step
     if !second.ate {
         return Step::Stop(brace);
     }
-    let end = scan::string_end(text, past);
+    let end = scan::string_end(utf8::whole(text), past);
     Step::Literal(TextRange { start: at, end })
 }
 
@@ -71,7 +71,7 @@ pub fn step_at(text: &[u8], frame: Frame, mode: Mode, state: State) -> Step
     if close.ate {
         return after_close(text, at, past);
     }
-    let end = scan::string_end(text, at);
+    let end = scan::string_end(utf8::whole(text), at);
     Step::Literal(TextRange { start: at, end })
 }
 

@@ -101,7 +101,7 @@ fn write_with_spec(
     let hint = if closed {
         SignHint::Silent
     } else {
-        quick::hint_at(quick::whole(text), close)
+        quick::hint_at(utf8::whole(text), close)
     };
     let told = PlaceholderTold {
         ok: quick::is_told(b, place, spec.ok),
@@ -151,7 +151,7 @@ pub fn write_placeholder(
     let hint = if closed {
         SignHint::Silent
     } else {
-        quick::hint_at(quick::whole(text), to)
+        quick::hint_at(utf8::whole(text), to)
     };
     let told = PlaceholderTold {
         ok: quick::is_told(b, place, true),

@@ -43,7 +43,15 @@ pub fn peek(text: &[u8], at: usize) -> Seen
             width: 1,
         };
     }
-    char_of(sequence_at(text, at))
+    char_of(sequence_at(whole(text), at))
+}
+
+// The same text, lent anew. A slice is lent by the place where its two numbers lie: lent on as it is, they are copied at once, which waits until both are written; lent
+// anew, they are two numbers in registers (docs/SPEED.md).
+pub fn whole(text: &[u8]) -> &[u8]
+    ensures { λ r. ⌜ now r ≡ now (text .entry) ⌝ }
+{
+    text
 }
 
 // The length of the longest prefix that is UTF-8.

@@ -47,21 +47,24 @@ returns-3 c =
       ← c .after-close .ensures,
     )
 
+whole-requires : tie.Need-whole-requires
+whole-requires c κs = search needs
+
 string-end-requires : tie.Need-string-end-requires
 string-end-requires c κs = search needs
 
 returns-4 : tie.Need-returns-4
 unfolding pick stepAt
 returns-4 c =
-    let at-close = c .before .before .before in
+    let at-close = c .before .before .before .before in
     let at-open = at-close .before .before .before in
     rw (
       lt-ltb _ _ (at-open .before .if1 .left),
       ← at-open .consume .ensures,
       at-close .before .if2 .left,
       ← at-close .consume2 .ensures,
-      c .before .if3 .left,
-      ← c .string-end .ensures,
+      c .before .before .if3 .left,
+      ← rw (c .before .whole .ensures) at (c .string-end .ensures),
     )
 
 pub step-at-spec : {M : Type 1} → statement M
@@ -75,5 +78,6 @@ step-at-spec =
     consume-requires-2
     after-close-requires
     returns-3
+    whole-requires
     string-end-requires
     returns-4)

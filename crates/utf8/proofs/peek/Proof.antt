@@ -25,6 +25,9 @@ returns-2 c =
     let a = c .before .before .before .before .before .args in
     ap (λ (b : ℕ). Char b 1) (c .wide .ensures) ∙ sym (ascii-char (now (a .text)) (a .at) (c .before .before .before .if1 .left) (c .before .if2 .taken))
 
+whole-requires : tie.Need-whole-requires
+whole-requires c κs = search needs
+
 sequence-at-requires : tie.Need-sequence-at-requires
 sequence-at-requires c κs = search needs
 
@@ -34,8 +37,9 @@ char-of-requires c κs = search needs
 returns-3 : tie.Need-returns-3
 unfolding peekAt
 returns-3 c =
-    let a = c .before .before .before .before .before .before .args in
-    c .char-of .ensures ∙ ap charOf (c .before .sequence-at .ensures) ∙ sym (decode-sequence (now (a .text)) (a .at) (c .before .before .before .before .if1 .left))
+    let a = c .before .before .before .before .before .before .before .args in
+    c .char-of .ensures ∙ ap charOf (rw (c .before .before .whole .ensures) at (c .before .sequence-at .ensures))
+    ∙ sym (decode-sequence (now (a .text)) (a .at) (c .before .before .before .before .before .if1 .left))
 
 pub peek-spec : {M : Type 1} → statement M
 peek-spec =
@@ -45,6 +49,7 @@ peek-spec =
     shared-slice-read-b
     wide-requires
     returns-2
+    whole-requires
     sequence-at-requires
     char-of-requires
     returns-3)

@@ -10,8 +10,8 @@ use Rattle.fills.proofs.literal.literal_end.Tie as tie
 add-if1 : tie.Need-add-if1
 add-if1 c = search needs
 
-near-end-requires : tie.Need-near-end-requires
-near-end-requires c κs = search needs
+end-by-fours-requires : tie.Need-end-by-fours-requires
+end-by-fours-requires c κs = search needs
 
 returns : tie.Need-returns
 returns c = search needs
@@ -29,4 +29,4 @@ returns-2 c = ap place (c .brace-before .ensures .1 (omega (arith, c .brace-befo
 pub literal-end-spec : {M : Type 1} → statement M
 literal-end-spec =
     tie.close
-    (tie.spec add-if1 near-end-requires returns add-brace-before brace-before-requires returns-2)
+    (tie.spec add-if1 end-by-fours-requires returns add-brace-before brace-before-requires returns-2)

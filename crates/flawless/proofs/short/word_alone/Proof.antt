@@ -1,4 +1,4 @@
--- `flawless::short::word_alone` meets its contract: a word that is neither `x`, `X` nor begins with `_`, up to the closing brace.
+-- `flawless::short::word_alone` meets its contract: a word that begins with none of `x`, `X` and `_`, up to the closing brace.
 use borrow.Author.Needs.{needs}
 use mathlib.Core.Path.{sym, _∙_}
 use Rattle.flawless.proofs.Shortening.{short-left, word-told}
@@ -38,13 +38,13 @@ nothing-requires-3 c κs = search needs
 given-back-requires : tie.Need-given-back-requires
 given-back-requires c κs = search needs
 
-lone-spec-requires : tie.Need-lone-spec-requires
-lone-spec-requires c κs = search needs
+short-of-requires : tie.Need-short-of-requires
+short-of-requires c κs = search needs
 
 returns-3 : tie.Need-returns-3
 returns-3 c =
     let p = c .before .before .before .before .before .before .before .before .before .before .before .pre in
-    rw (c .lone-spec .ensures, c .before .before .before .word-type .ensures, c .before .before .before .before .nothing2 .ensures, c .before .before .before .before .before .nothing .ensures)
+    rw (c .short-of .ensures, c .before .before .before .word-type .ensures, c .before .before .before .before .nothing2 .ensures, c .before .before .before .before .before .nothing .ensures)
     (word-told (p .0) (p .1) (p .2) (c .before .before .before .before .before .before .word-at .ensures) (sym (c .before .before .before .before .before .before .before .before .before .is-type-sign .ensures) ∙ c .before .before .before .before .before .before .before .before .if1 .left) (c .before .before .before .before .before .before .before .if2 .left)
     (rw (c .before .before .nothing3 .ensures) at (c .before .given-back .ensures)))
 
@@ -63,5 +63,5 @@ word-alone-spec =
     word-type-requires
     nothing-requires-3
     given-back-requires
-    lone-spec-requires
+    short-of-requires
     returns-3)

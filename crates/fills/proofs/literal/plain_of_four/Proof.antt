@@ -1,12 +1,12 @@
--- `fills::literal::before_brace` meets its contract: each byte that is no brace is passed, and the first brace ends the text.
+-- `fills::literal::plain_of_four` meets its contract: each byte that is no brace is passed, and the first brace ends literal text.
 use borrow.Author.Needs.{needs}
 use Prim.Native.Nat.{_+_}
 use mathlib.Core.Path.{sym, _∙_}
 use native.Mathlib.Omega.{arith}
 use denote.Ref.{now}
 use Rattle.fills.proofs.Literals.{Plain, plain-none, plain-more, plain-stop}
-use Rattle.fills.proofs.literal.before_brace.Statement.{statement}
-use Rattle.fills.proofs.literal.before_brace.Tie as tie
+use Rattle.fills.proofs.literal.plain_of_four.Statement.{statement}
+use Rattle.fills.proofs.literal.plain_of_four.Tie as tie
 
 shared-slice-read-plain : tie.Need-shared-slice-read-plain
 shared-slice-read-plain c = search needs
@@ -76,8 +76,8 @@ returns-5 c =
     let p : Plain (now (a .text)) (a .at) 4 = plain-more (plain-more (plain-more (plain-more (plain-none) (a .at) (omega arith) (omega (arith, h)) (λ z. c .before .before .before .before .before .before .before .before .before .if1 .left (c .before .before .before .before .before .before .before .before .before .before .plain .ensures .0 ∙ z))) (a .at + 1) (omega arith) (omega (arith, h)) (λ z. c .before .before .before .before .before .before .if2 .left (c .before .before .before .before .before .before .before .plain2 .ensures .0 ∙ z))) (a .at + 2) (omega arith) (omega (arith, h)) (λ z. c .before .before .before .if3 .left (c .before .before .before .before .plain3 .ensures .0 ∙ z))) (a .at + 3) (omega arith) (omega (arith, h)) (λ z. c .if4 .left (c .before .plain4 .ensures .0 ∙ z)) in
     ((p .on, omega arith), λ l. absurd (omega (arith, l)))
 
-pub before-brace-spec : {M : Type 1} → statement M
-before-brace-spec =
+pub plain-of-four-spec : {M : Type 1} → statement M
+plain-of-four-spec =
     tie.close
     (tie.spec
     shared-slice-read-plain

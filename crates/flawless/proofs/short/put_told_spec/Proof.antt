@@ -1,11 +1,11 @@
--- `flawless::short::put_spec` meets its contract: the parts of a spec, one after another.
+-- `flawless::short::put_told_spec` meets its contract: the parts of a spec, one after another.
 use borrow.Author.Needs.{needs}
-use mathlib.Core.Path.{_∙_}
+use mathlib.Core.Path.{_≡_, refl, _∙_}
 use native.Mathlib.Omega.{arith}
 use denote.Ref.{now}
 use Rattle.told.proofs.Telling.{put-count, put-width, spec-put}
-use Rattle.flawless.proofs.short.put_spec.Statement.{statement}
-use Rattle.flawless.proofs.short.put_spec.Tie as tie
+use Rattle.flawless.proofs.short.put_told_spec.Statement.{statement}
+use Rattle.flawless.proofs.short.put_told_spec.Tie as tie
 
 put-told-fill-requires : tie.Need-put-told-fill-requires
 put-told-fill-requires c κs = search needs
@@ -52,17 +52,17 @@ same-length c = search needs
 returns : tie.Need-returns
 returns c =
     let a = c .before .before .before .before .before .before .before .before .before .before .before .before .before .before .before .before .before .before .before .before .before .before .before .before .before .before .before .args in
-    let few = c .before .before .before .before .before .before .before .before .before .before .before .before .before .before .before .before .before .before .before .before .before .before .before .before .before .before .before .pre in
+    let p = c .before .before .before .before .before .before .before .before .before .before .before .before .before .before .before .before .before .before .before .before .before .before .before .before .before .before .before .pre in
     let same = c .before .before .before .before .before .before .before .before .before .before .before .before .before .out2 .given ∙ c .before .before .before .before .before .before .before .before .before .before .before .before .before .before .before .before .before .before .before .before .before .out .given in
-    spec-put (now (a .text)) (a .frame) (a .at) (a .next) (a .spec) (now (a .out)) (a .k) (few .1) (λ _. (omega (arith, few .2), omega (arith, few .3))) (c .before .before .before .before .before .before .before .before .before .before .before .before .before .before .before .before .before .before .before .before .before .before .put-told-fill .ensures)
+    (spec-put (now (a .text)) (a .frame) (a .at) (a .next) (a .spec) (now (a .out)) (a .k) (p .1) {told = a .k ≡ a .k} (λ _. (omega (arith, p .2), omega (arith, p .3))) (c .before .before .before .before .before .before .before .before .before .before .before .before .before .before .before .before .before .before .before .before .before .before .put-told-fill .ensures)
     (rw (c .before .before .before .before .before .before .before .before .before .before .before .before .before .before .before .before .before .before .align-word .ensures, c .before .before .before .before .before .before .before .before .before .before .before .before .before .before .before .before .before .sign-word .ensures, c .before .before .before .before .before .before .before .before .before .before .before .before .before .before .before .before .bit .ensures, c .before .before .before .before .before .before .before .before .before .before .before .before .before .before .before .bit2 .ensures) at (c .before .before .before .before .before .before .before .before .before .before .before .before .before .before .put4 .ensures))
-    (put-count (now (a .text)) (a .frame) _ _ (a .next) _ (λ e. omega (arith, few .2, e)) (c .before .before .before .before .before .before .before .before .before .before .put-told-count .ensures))
-    (put-width (now (a .text)) (a .frame) _ (a .next) _ (λ e. omega (arith, few .3, e))
-    (put-count (now (a .text)) (a .frame) _ _ (a .next) _ (λ e. omega (arith, few .3, e)) (c .before .before .before .before .before .before .put-told-count2 .ensures)))
-    (c .before .before .put-told-type .ensures) same (c .before .before .before .before .before .before .before .before .before .out3 .given ∙ same) (c .before .before .before .before .before .out4 .given ∙ c .before .before .before .before .before .before .before .before .before .out3 .given ∙ same)
+    (put-count (now (a .text)) (a .frame) _ _ (a .next) _ (λ e. omega (arith, p .2, e)) (c .before .before .before .before .before .before .before .before .before .before .put-told-count .ensures))
+    (put-width (now (a .text)) (a .frame) _ (a .next) _ (λ e. omega (arith, p .3, e))
+    (put-count (now (a .text)) (a .frame) _ _ (a .next) _ (λ e. omega (arith, p .3, e)) (c .before .before .before .before .before .before .put-told-count2 .ensures)))
+    (c .before .before .put-told-type .ensures) same (c .before .before .before .before .before .before .before .before .before .out3 .given ∙ same) (c .before .before .before .before .before .out4 .given ∙ c .before .before .before .before .before .before .before .before .before .out3 .given ∙ same)) .wrote refl
 
-pub put-spec-spec : {M : Type 1} → statement M
-put-spec-spec =
+pub put-told-spec-spec : {M : Type 1} → statement M
+put-told-spec-spec =
     tie.close
     (tie.spec
     put-told-fill-requires

@@ -1,16 +1,16 @@
--- `flawless::short::lone_width` meets its contract: nothing at a dot, a number, or what is not told.
+-- `flawless::short::short_width` meets its contract: nothing at a dot, a number, or what is not told.
 use borrow.Author.Needs.{needs}
 use mathlib.Core.Path.{sym, _∙_}
 use native.Mathlib.Omega.{arith}
 use Rattle.flawless.proofs.Shortening.{digit-some, width-dot, width-untold, width-number}
-use Rattle.flawless.proofs.short.lone_width.Statement.{statement}
-use Rattle.flawless.proofs.short.lone_width.Tie as tie
+use Rattle.flawless.proofs.short.short_width.Statement.{statement}
+use Rattle.flawless.proofs.short.short_width.Tie as tie
 
 nothing-requires : tie.Need-nothing-requires
 nothing-requires c κs = search needs
 
 returns : tie.Need-returns
-returns c = rw (c .nothing .ensures) (width-dot (c .before .before .before .pre .0 .within) (sym (c .before .before .before .pre .1) ∙ c .before .if1 .taken))
+returns c = rw (c .nothing .ensures) (width-dot (sym (c .before .before .before .pre .1) ∙ c .before .if1 .taken))
 
 untold-requires : tie.Need-untold-requires
 untold-requires c κs = search needs
@@ -30,8 +30,8 @@ number-requires c κs = (c .before .before .before .before .pre .0, digit-some _
 returns-4 : tie.Need-returns-4
 returns-4 c = width-number (c .number .ensures) (omega (arith, c .before .before .before .before .before .pre .1, c .before .before .if2 .left)) (omega (arith, c .before .before .before .before .before .pre .1, c .before .if3 .left))
 
-pub lone-width-spec : {M : Type 1} → statement M
-lone-width-spec =
+pub short-width-spec : {M : Type 1} → statement M
+short-width-spec =
     tie.close
     (tie.spec
     nothing-requires

@@ -1,12 +1,12 @@
--- `flawless::short::lone_precision` meets its contract: no dot, a dot and a number, or what is not told.
+-- `flawless::short::short_precision` meets its contract: no dot, a dot and a number, or what is not told.
 use borrow.Author.Needs.{needs}
 use mathlib.Core.Path.{sym, _∙_, ap}
 use native.Mathlib.Omega.{arith}
 use Rattle.scan.specs.Words.{isDigit}
 use Rattle.quick.proofs.Bytes.{room-past}
 use Rattle.flawless.proofs.Shortening.{precision-absent, precision-untold, precision-number}
-use Rattle.flawless.proofs.short.lone_precision.Statement.{statement}
-use Rattle.flawless.proofs.short.lone_precision.Tie as tie
+use Rattle.flawless.proofs.short.short_precision.Statement.{statement}
+use Rattle.flawless.proofs.short.short_precision.Tie as tie
 
 byte-requires : tie.Need-byte-requires
 byte-requires c κs = search needs
@@ -41,8 +41,8 @@ untold-requires c κs = search needs
 returns-3 : tie.Need-returns-3
 returns-3 c = rw (c .untold .ensures) precision-untold
 
-pub lone-precision-spec : {M : Type 1} → statement M
-lone-precision-spec =
+pub short-precision-spec : {M : Type 1} → statement M
+short-precision-spec =
     tie.close
     (tie.spec
     byte-requires
