@@ -31,31 +31,64 @@ fn every_text(text: &mut [u8], totals: &mut [usize]) -> bool
     }
     let watched = libc::isatty(STDERR_FILENO) == 1;
     let mut left = count;
+    let mut size = first_size(count);
     while 0 < left {
-        if !next_text(&mut *text, &mut *totals) {
+        if 65535 < size {
             return false;
         }
         left -= 1;
+        size = next_text(&mut *text, size, 0 < left, &mut *totals);
         show(watched, left);
+    }
+    if 65535 < size {
+        return false;
     }
     ended()
 }
 
-// Reads a text behind its length and adds its totals to those so far; says whether it is all there.
-fn next_text(text: &mut [u8], totals: &mut [usize]) -> bool
-    requires { ⌜ (length (now totals) ≡ 24) × Room 0x100000 (now totals) ⌝ }
-    ensures { λ _. ⌜ Grown (now (totals .entry)) (now (totals .exit)) ⌝ }
+// The length of the first of so many texts; 0 where there is none.
+fn first_size(count: usize) -> usize
+    ensures { λ r. ⌜ r ≤ 65536 ⌝ }
 {
-    let size = number();
-    if 65535 < size {
-        return false;
+    if count == 0 {
+        return 0;
     }
-    let got = part(&mut *text, size);
-    if got < size {
-        return false;
+    number()
+}
+
+// How many bytes are read behind a text: the two of the next one's length, if one follows and the buffer has room for them.
+fn behind(room: usize, size: usize, more: bool) -> usize
+    requires { ⌜ size ≤ 65535 ⌝ }
+    ensures { λ r. ⌜ r ≤ 2 ⌝ }
+{
+    if !more {
+        return 0;
+    }
+    if room < size + 2 {
+        return 0;
+    }
+    2
+}
+
+// Reads a text of so many bytes, and with it the length of the next, so that most texts take one read; adds the text's totals to those so far. Gives the length of the
+// next text: 0 where none follows, and 65,536, which is none, where bytes are missing.
+fn next_text(text: &mut [u8], size: usize, more: bool, totals: &mut [usize]) -> usize
+    requires { ⌜ (size ≤ 65535) × (length (now totals) ≡ 24) × Room 0x100000 (now totals) ⌝ }
+    ensures { λ r. ⌜ Grown (now (totals .entry)) (now (totals .exit)) × (r ≤ 65536) ⌝ }
+{
+    let after = behind(text.len(), size, more);
+    let got = part(&mut *text, size + after);
+    if got < size + after {
+        return 65536;
     }
     totals::add_text(&text[..size], totals);
-    true
+    if after == 2 {
+        return totals::two(text[size], text[size + 1]);
+    }
+    if more {
+        return number();
+    }
+    0
 }
 
 // Reads a number of two bytes; 65,536, which is none, where the input ends before it.
