@@ -12,7 +12,6 @@ ghost use Prim.Native.Nat.{_<_};
 ghost use Rattle.utf8.specs.Choice.{either};
 ghost use Rattle.frame.specs.Bounds.{Small};
 ghost use Rattle.frame.specs.Frames.{same};
-ghost use Rattle.faults.specs.Slots.{FirstWrong};
 ghost use Rattle.membership.specs.Members.{number, date, isTaken};
 ghost use Rattle.membership.specs.Verdicts.{textVerdict, judgedOf};
 ghost use Rattle.member.specs.Meetings.{firstAfter, againAfter, sortsAt, noSorts, metAfter, metStep, told, isOther};
@@ -227,16 +226,6 @@ fn verdict_of(met: Met) -> Verdict
     Verdict::Yes
 }
 
-// The first slot of a step that is not clean, or 13. Most steps found nothing wrong, and are not copied for the walk.
-fn first_fault(step: Step) -> usize
-    ensures { λ r. ⌜ FirstWrong step 0 r ⌝ }
-{
-    if faults::is_clear(step) {
-        return 13;
-    }
-    faults::first_wrong(step, 0)
-}
-
 // The verdict on a text that is not refused. The first step that found something wrong ends it: rule 1.
 fn checked(text: &[u8], frame: Frame) -> Verdict
     requires { ⌜ Small (now text) frame ⌝ }
@@ -255,7 +244,7 @@ fn checked(text: &[u8], frame: Frame) -> Verdict
     };
     while 0 < left {
         let step = steps::step_at(text, frame, Mode::Format, state);
-        if first_fault(step) < 13 {
+        if faults::first_wrong(step, 0) < 13 {
             return Verdict::Broken(1, 0);
         }
         met = met_step(text, met, step);

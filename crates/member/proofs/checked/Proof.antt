@@ -25,14 +25,14 @@ step-at-requires c κs =
     let small = c .before .before .before .before .before .pre in
     (small, omega (arith, c .before .loop .inv .kept .next))
 
-first-fault-requires : tie.Need-first-fault-requires Inv-loop μ-loop
-first-fault-requires c κs = tt
+first-wrong-requires : tie.Need-first-wrong-requires Inv-loop μ-loop
+first-wrong-requires c κs = omega arith
 
 returns : tie.Need-returns Inv-loop μ-loop
 returns c =
     let at-step = c .before .before in
     walk-wrong _ _ (at-step .before .loop-test .taken) (at-step .before .before .loop .inv) (at-step .step-at .ensures)
-    (c .before .first-fault .ensures) (c .if1 .taken)
+    (c .before .first-wrong .ensures) (c .if1 .taken)
 
 met-step-requires : tie.Need-met-step-requires Inv-loop μ-loop
 met-step-requires c κs =
@@ -55,7 +55,7 @@ returns-2 c =
     let at-step = at-met .before .before .before in
     c .verdict-of .ensures
     ∙ walk-over _ _ (at-step .before .loop-test .taken) (at-step .before .before .loop .inv) (at-step .step-at .ensures)
-    (at-met .before .before .first-fault .ensures) (at-met .before .if1 .left) (at-met .met-step .ensures)
+    (at-met .before .before .first-wrong .ensures) (at-met .before .if1 .left) (at-met .met-step .ensures)
     (sym (c .before .before .before .go-on .ensures) ∙ c .before .enum-told .given .1)
 
 enum-known-after : tie.Need-enum-known-after Inv-loop μ-loop
@@ -72,7 +72,7 @@ loop-again c =
     let at-met = c .before .before .before .before in
     let at-step = at-met .before .before .before in
     walk-on _ _ (at-step .before .loop-test .taken) (at-step .before .before .loop .inv) (at-step .step-at .ensures)
-    (at-met .before .before .first-fault .ensures) (at-met .before .if1 .left) (at-met .met-step .ensures)
+    (at-met .before .before .first-wrong .ensures) (at-met .before .if1 .left) (at-met .met-step .ensures)
     (sym (c .before .before .before .go-on .ensures) ∙ c .before .after .given .1)
 
 verdict-of-requires-2 : tie.Need-verdict-of-requires-2 Inv-loop μ-loop
@@ -90,7 +90,7 @@ checked-spec =
     first-cursor-requires
     loop-holds
     step-at-requires
-    first-fault-requires
+    first-wrong-requires
     returns
     met-step-requires
     go-on-requires
