@@ -1,7 +1,5 @@
 -- Laws that the proofs of `fills` share.
-pub mod ToldWrong
 pub mod Stepping
-pub mod Literals
 pub mod Passing
 pub mod Ways
 pub mod Stopping

@@ -1,4 +1,4 @@
--- Steps of the lane: what is passed, what is left, and where it stops. Rests on Lane, Stepping, Spoiling and ToldWrong, and on writing's Stepping.
+-- Steps of the lane: what is passed, what is left, and where it stops. Rests on Lane and passing's Passings.
 use Prim.Native.Nat.{ℕ, _+_, _*_, _≤_, _<_}
 use mathlib.Core.Path.{_≡_, refl, sym, ap, _∙_}
 use mathlib.Core.Bool.{true, false, true≢false}
@@ -10,7 +10,6 @@ use Rattle.frame.specs.declared.Frame.{Frame}
 use Rattle.frame.specs.declared.Mode.{Mode}
 use Rattle.frame.specs.declared.TextRange.{TextRange}
 use Rattle.closing.specs.Wholes.{placeholderRead}
-use Rattle.reading.specs.Faults.{stepSlots, wrong}
 use Rattle.reading.specs.Lists.{gather, piecesOf}
 use Rattle.laws.specs.ListLaws.{gather-one}
 use Rattle.laws.specs.MoveLaws.{givenBy}
@@ -18,16 +17,18 @@ use Rattle.reading.specs.Steps.{stateOf, stepAt}
 use Rattle.reading.specs.declared.Piece.{Piece}
 use Rattle.reading.specs.declared.State.{State}
 use Rattle.reading.specs.declared.Step.{Step}
-use Rattle.quick.specs.Tellings.{argumentOf, toldRead, inMode, Tells}
+use Rattle.quick.specs.Tellings.{argumentOf, toldRead, inMode, Tells, Flawless}
 use Rattle.quick.specs.declared.PlaceholderTold.{PlaceholderTold}
 use Rattle.words.specs.Laid.{laid}
 use Rattle.words.specs.LaidLaws.{pieceWords-length}
 use Rattle.words.specs.Layout.{literalWords, argumentWords, pieceWords}
-use Rattle.told.specs.Told.{Put, Flawless, toldState}
-use Rattle.fills.specs.declared.lane.Passed.{Passed}
-use Rattle.fills.specs.Lane.{Tried, Clear, PassedBy}
-use Rattle.fills.proofs.ToldWrong.{flawless-none, told-wrong}
-use Rattle.fills.proofs.Stepping.{step-open, step-told, told-on}
+use Rattle.told.specs.Told.{Put}
+use Rattle.passing.specs.declared.Passed.{Passed}
+use Rattle.passing.specs.After.{toldState}
+use Rattle.passing.specs.Clear.{OpenAt, Clear}
+use Rattle.passing.proofs.Stepping.{step-open, step-told}
+use Rattle.passing.proofs.Passings.{stays, literal-clear, literal-given, open-clear, open-given}
+use Rattle.fills.specs.Lane.{Tried, PassedBy}
 
 module _ (t : List ℕ) (f : Frame) (m : Mode) (s : State) (n : ℕ) (ps : List ℕ) where
   -- NOTHING WAS TRIED
@@ -36,13 +37,7 @@ module _ (t : List ℕ) (f : Frame) (m : Mode) (s : State) (n : ℕ) (ps : List 
 
   -- A STEP THAT IS NOT PASSED
   pub stopped-at : {r : Passed} → r .on ≡ false → {ps′ : List ℕ} → Tried t f m s n ps ps′ → PassedBy t f m s n ps r ps′
-  stopped-at o w =
-      record {
-        clear = λ y. absurd (true≢false (sym y ∙ o));
-        wrote = λ y. absurd (true≢false (sym y ∙ o));
-        given = λ y. absurd (true≢false (sym y ∙ o));
-        tried = λ _. w;
-      }
+  stopped-at o w = record { passes = stays t f m s o; wrote = λ y. absurd (true≢false (sym y ∙ o)); tried = λ _. w }
 
   pub stopped-none : {r : Passed} → r .on ≡ false → PassedBy t f m s n ps r ps
   stopped-none o = stopped-at o tried-none
@@ -50,7 +45,7 @@ module _ (t : List ℕ) (f : Frame) (m : Mode) (s : State) (n : ℕ) (ps : List 
   -- one that is
   passed-on : {g : ℕ} {a : State} {ps′ : List ℕ} → Clear t f m s a → ps′ ≡ laid ps (40 * n) (gather pieceWords (piecesOf (stepAt t f m s))) →
       g ≡ givenBy (stepAt t f m s) → PassedBy t f m s n ps (record { on = true; state = a; given = g }) ps′
-  passed-on c w g = record { clear = λ _. c; wrote = λ _. w; given = λ _. g; tried = λ y. absurd (true≢false y) }
+  passed-on c w g = record { passes = record { clear = λ _. c; given = λ _. g }; wrote = λ _. w; tried = λ y. absurd (true≢false y) }
 
 -- LITERAL TEXT is passed
 module _ (t : List ℕ) (f : Frame) (m : Mode) (s : State) (n : ℕ) (ps : List ℕ) {view : TextRange} (step : Step.Literal view ≡ stepAt t f m s) where
@@ -59,15 +54,17 @@ module _ (t : List ℕ) (f : Frame) (m : Mode) (s : State) (n : ℕ) (ps : List 
 
   pub literal-passed : {ps′ : List ℕ} → ps′ ≡ laid ps (40 * n) (literalWords view) →
       PassedBy t f m s n ps (record { on = true; state = stateOf (view .end) (s .next) (s .arguments); given = 0 }) ps′
-  unfolding stepSlots wrong
   literal-passed w =
       passed-on t f m s n ps
-      (record { clean = rw (← step) refl; goes = rw (← step) refl; one = rw (← step) refl })
+      (literal-clear t f m s step)
       (w ∙ ap (laid ps (40 * n)) (sym (gather-one pieceWords (Piece.Literal view))) ∙ ap (λ (y : Step). laid ps (40 * n) (gather pieceWords (piecesOf y))) step)
-      (rw (← step) refl)
+      (literal-given t f m s step)
 
 -- A PLACEHOLDER
 module _ (t : List ℕ) (f : Frame) (m : Mode) (s : State) (n : ℕ) (ps : List ℕ) (h : s .at .0 < length t) (o : getD t (s .at .0) 0 ≡ 0x7B) (d : getD t (s .at .0 + 1) 0 ≡ 0x7B → ⊥) where
+  here : OpenAt t (s .at .0)
+  here = record { within = h; brace = o; alone = d }
+
   pub open-fits : 40 * (n + length (piecesOf (stepAt t f m s))) ≤ length ps → 40 * n + 40 ≤ length ps
   open-fits r = let q = rw (← step-open t f m s h o d) at r in omega (arith, q)
 
@@ -94,11 +91,7 @@ module _ (t : List ℕ) (f : Frame) (m : Mode) (s : State) (n : ℕ) (ps : List 
       unfolding toldRead
       open-passed p {a} q =
           passed-on t f m s n ps
-          (record {
-            clean = rw (← step) (told-wrong t f (s .at .0) (s .next) x ∙ flawless-none t f (s .at .0) x p);
-            goes = rw (← step) (told-on t f s x q);
-            one = rw (← step) refl;
-          })
+          (open-clear t f m s here l (record { told = y; speaks = z; flawless = p }) q)
           (w .wrote y ∙ ap (laid ps (40 * n)) (sym (gather-one pieceWords (Piece.Placeholder (argumentOf t f (s .at .0) (s .next) x))))
           ∙ ap (λ (z : Step). laid ps (40 * n) (gather pieceWords (piecesOf z))) step)
-          (rw (← step) refl)
+          (open-given t f m s here l (record { told = y; speaks = z; flawless = p }))

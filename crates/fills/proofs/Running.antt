@@ -30,7 +30,8 @@ use Rattle.words.specs.Layout.{pieceWords, errorWords}
 use Rattle.fills.specs.Filling.{Fills}
 use Rattle.words.specs.Calls.{piecesIn, errorsIn}
 use Rattle.writing.specs.StepsWritten.{Noted, notedBy, notes, noticed, StepRoom, Stepped, SteppedOn}
-use Rattle.fills.specs.Lane.{Clear, Way, LaneRoom, LaneRan, Figures, fresh, Ran}
+use Rattle.passing.specs.Clear.{Clear}
+use Rattle.fills.specs.Lane.{Way, LaneRoom, LaneRan, Figures, fresh, Ran}
 use Rattle.fills.specs.declared.lane.Stopped.{Stopped}
 use Rattle.writing.specs.declared.Extent.{Extent}
 use Rattle.writing.specs.declared.StepWritten.{StepWritten}

@@ -17,7 +17,8 @@ use Rattle.words.specs.Laid.{laid}
 use Rattle.words.specs.LaidLaws.{laid-length, laid-on, pieceWords-length}
 use Rattle.words.specs.Layout.{pieceWords}
 use Rattle.writing.proofs.Overlays.{laid-none, gather-length}
-use Rattle.fills.specs.Lane.{Tried, Clear, Way, LaneRoom, LaneRan}
+use Rattle.passing.specs.Clear.{Clear}
+use Rattle.fills.specs.Lane.{Tried, Way, LaneRoom, LaneRan}
 
 -- WHERE THE LANE STANDS: the steps so far are passed, and their pieces written
 pub record OnWay (t : List ℕ) (f : Frame) (m : Mode) (s₀ : State) (n₀ : ℕ) (ps₀ : List ℕ) (s : State) (n g : ℕ) (ps : List ℕ) : Type 0 where

@@ -1,79 +1,34 @@
--- What is told to be wrong, as it is noted; the lane; and a whole text. Rests on told's Told, quick's Tellings, writing's StepsWritten and reading's Lists.
+-- The lane, and a whole text. Rests on passing's Clear, writing's StepsWritten and reading's Lists.
 use Prim.Native.Nat.{ℕ, _+_, _*_, _≤_, _<_}
 use mathlib.Core.Path.{_≡_}
 use mathlib.Core.Bool.{true, false}
-use mathlib.Core.List.{List, [], _∷_, _++_}
-use mathlib.Core.Logic.{_⊎_}
-use lib.Dec.{eqb}
-use lib.ListN.{length, getD}
-use Rattle.utf8.specs.Choice.{pick}
-use Rattle.utf8.specs.Utf8.{peekAt}
-use Rattle.frame.specs.Places.{place}
+use mathlib.Core.List.{List, [], _++_}
+use lib.ListN.{length}
 use Rattle.frame.specs.declared.Frame.{Frame}
 use Rattle.frame.specs.declared.Mode.{Mode}
-use Rattle.frame.specs.declared.TextPlace.{TextPlace}
-use Rattle.closing.specs.Recovery.{gapAt}
-use Rattle.reading.specs.Faults.{gapFault, hintFault, argumentSlots, stepSlots, wrong}
 use Rattle.reading.specs.Lists.{gather, piecesOf, pieces, found}
-use Rattle.reading.specs.Steps.{stepAt, onward}
+use Rattle.reading.specs.Steps.{stepAt}
 use Rattle.reading.specs.Wants.{wants}
 use Rattle.reading.specs.Written.{over}
 use Rattle.laws.specs.MoveLaws.{givenBy, given, stopOf}
-use Rattle.reading.specs.declared.Fault.{Fault}
-use Rattle.reading.specs.declared.Onward.{Onward}
 use Rattle.reading.specs.declared.Piece.{Piece}
 use Rattle.reading.specs.declared.State.{State}
-use Rattle.quick.specs.Tellings.{codeSeen, blanksOf, placedHint}
-use Rattle.quick.specs.declared.PlaceholderTold.{PlaceholderTold}
 use Rattle.words.specs.Laid.{laid}
 use Rattle.words.specs.Layout.{pieceWords}
 use Rattle.writing.specs.StepsWritten.{Noted, notedBy, notes}
 use Rattle.writing.specs.declared.Extent.{Extent}
 use Rattle.words.specs.Calls.{piecesIn}
-use Rattle.fills.specs.declared.lane.Passed.{Passed}
+use Rattle.passing.specs.Clear.{Clear, Passes}
+use Rattle.passing.specs.declared.Passed.{Passed}
 use Rattle.fills.specs.declared.lane.Stopped.{Stopped}
-
--- what says why a closing brace was expected: the fill, which stands after the colon, if it is `}`, else the opening brace
-unfoldable pub whyTold : List ℕ → TextPlace → PlaceholderTold → TextPlace
-whyTold t brace x =
-    let at = x .to + 1 in
-    pick (x .colon) (pick (eqb at (x .spec .fill)) brace (pick (eqb (codeSeen (peekAt t at)) 0x7D) (place at) brace)) brace
-
--- what may be wrong where its closing brace is missing: that it is, and what is said of the sign there
-unfoldable pub missingTold : List ℕ → ℕ → PlaceholderTold → List Fault
-missingTold t brace x =
-    gapFault (gapAt t (place (x .close)) (whyTold t (place brace) x)) ∷
-    hintFault (place brace) (placedHint (x .hint) (place (x .close))) ∷
-    []
-
--- what may be wrong in it, in the order of reading
-unfoldable pub toldSlots : List ℕ → ℕ → PlaceholderTold → List Fault
-toldSlots t brace x = argumentSlots (blanksOf (brace + 1) x) ++ pick (x .closed) [] (missingTold t brace x)
-
--- A PLACEHOLDER OF FORMAT MODE stands at a byte: a brace, and not two
-pub record Open (t : List ℕ) (m : Mode) (at : ℕ) : Type 0 where
-  pub mode : m ≡ Mode.Format
-  pub brace : getD t at 0 ≡ 0x7B
-  pub alone : getD t (at + 1) 0 ≡ 0x7B → ⊥
-
--- TWO EQUAL BRACES stand at a byte
-abbrev pub Doubled : List ℕ → ℕ → Type 0
-Doubled t at = ((getD t at 0 ≡ 0x7B) × (getD t (at + 1) 0 ≡ 0x7B)) ⊎ ((getD t at 0 ≡ 0x7D) × (getD t (at + 1) 0 ≡ 0x7D))
 
 -- THE STEP WHERE THE LANE STOPPED: its own piece is yet to be laid over what was tried there
 pub record Tried (t : List ℕ) (f : Frame) (m : Mode) (s : State) (n : ℕ) (ps ps′ : List ℕ) : Type 0 where
   pub left : laid ps′ (40 * n) (gather pieceWords (piecesOf (stepAt t f m s))) ≡ laid ps (40 * n) (gather pieceWords (piecesOf (stepAt t f m s)))
 
--- A STEP THAT IS PASSED: nothing is wrong in it, it gives a piece, which is written, and reading goes on
-pub record Clear (t : List ℕ) (f : Frame) (m : Mode) (s s′ : State) : Type 0 where
-  pub clean : wrong (stepSlots (stepAt t f m s)) ≡ []
-  pub goes : onward s (stepAt t f m s) ≡ Onward.To s′
-  pub one : length (piecesOf (stepAt t f m s)) ≡ 1
-
 pub record PassedBy (t : List ℕ) (f : Frame) (m : Mode) (s : State) (n : ℕ) (ps : List ℕ) (r : Passed) (ps′ : List ℕ) : Type 0 where
-  pub clear : r .on ≡ true → Clear t f m s (r .state)
+  pub passes : Passes t f m s r
   pub wrote : r .on ≡ true → ps′ ≡ laid ps (40 * n) (gather pieceWords (piecesOf (stepAt t f m s)))
-  pub given : r .on ≡ true → r .given ≡ givenBy (stepAt t f m s)
   pub tried : r .on ≡ false → Tried t f m s n ps ps′
 
 -- SUCH STEPS ONE AFTER ANOTHER, from a state to another: the pieces that they give, and how much they give back

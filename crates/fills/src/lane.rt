@@ -1,19 +1,23 @@
 // The lane: literal text and placeholders, one after another, each written as soon as it is read. It stops where the text ends, where something is wrong,
 // and where it does not tell what stands there, which in the other modes than Format is every spec. No struct is lent from inside its loop to a call that stays one (docs/SPEED.md).
-use crate::literal::literal_end;
-use crate::wrongs::put_wrongs;
 use frame::Frame;
 use frame::Mode;
 use frame::TextPlace;
 use frame::TextRange;
+use literal::literal_end;
+use passing::Passed;
+use passing::after::after_told;
+use passing::is_open;
+use passing::speaks;
+use passing::stay;
 use reading::State;
-use told::parts::after_told;
 use told::whole::write_placeholder;
 use words::put_literal;
 use writing::Extent;
 use writing::StepWritten;
 use writing::one_more;
 use writing::write_step;
+use wrongs::put_wrongs;
 ghost use mathlib.Core.Path.{_≡_};
 ghost use mathlib.Core.Bool.{true, false};
 ghost use Prim.Native.Nat.{_+_, _*_, _≤_, _<_};
@@ -24,32 +28,14 @@ ghost use Rattle.reading.specs.Lists.{piecesOf};
 ghost use Rattle.reading.specs.Steps.{stepAt};
 ghost use Rattle.reading.specs.declared.Step.{Step as Steps};
 ghost use Rattle.writing.specs.StepsWritten.{StepRoom, SteppedOn};
-ghost use Rattle.quick.specs.Tellings.{inMode};
-ghost use Rattle.fills.specs.Lane.{Open, Doubled, PassedBy, LaneRoom, LaneRan};
-
-// A step of the lane: whether it is passed, where reading then stands, and how many characters it gave back.
-pub struct Passed {
-    pub on: bool,
-    pub state: State,
-    pub given: usize,
-}
+ghost use Rattle.passing.specs.Clear.{Doubled, OpenAt};
+ghost use Rattle.fills.specs.Lane.{PassedBy, LaneRoom, LaneRan};
 
 // Where the lane stopped, how many pieces are written before it, and how many characters were given back on the way.
 pub struct Stopped {
     pub state: State,
     pub pieces: usize,
     pub given: usize,
-}
-
-// A step that is not passed.
-fn stay(state: State) -> Passed
-    ensures { λ r. ⌜ r .on ≡ false ⌝ }
-{
-    Passed {
-        on: false,
-        state,
-        given: 0,
-    }
 }
 
 // The step that is literal text: its view is written. The text, the frame and the mode are there for what is promised: they say which step it is.
@@ -103,17 +89,6 @@ fn pass_doubled(
         pieces,
         TextRange { start, end },
     )
-}
-
-// Whether what is told holds in a mode: a spec is told as Format mode reads it, and without one a placeholder is read alike in each.
-fn speaks(mode: Mode, colon: bool) -> bool
-    ensures { λ r. ⌜ r ≡ inMode mode colon ⌝ }
-{
-    match mode {
-        Mode::Format => true,
-        Mode::InlineAsm => !colon,
-        Mode::Diagnostic => !colon,
-    }
 }
 
 // The step at an opening brace.
@@ -268,18 +243,13 @@ pub fn lane_in(
     lane(utf8::whole(text), own_frame(frame), mode, state, n, pieces)
 }
 
-// Whether a placeholder of Format mode stands at a byte of the text: a brace, and not two.
-fn is_open(text: &[u8], mode: Mode, at: usize) -> bool
+// Whether a placeholder of Format mode starts at a byte of the text.
+fn opens(text: &[u8], mode: Mode, at: usize) -> bool
     requires { ⌜ at < length (now text) ⌝ }
-    ensures { λ r. ⌜ (r ≡ true → Open (now (text .entry)) mode at) ⌝ }
+    ensures { λ r. ⌜ (r ≡ true → (mode ≡ Modes.Format) × OpenAt (now (text .entry)) at) ⌝ }
 {
     match mode {
-        Mode::Format => {
-            if text[at] == b'{' {
-                return utf8::byte(text, at + 1) != b'{';
-            }
-            false
-        }
+        Mode::Format => is_open(text, at),
         Mode::InlineAsm => false,
         Mode::Diagnostic => false,
     }
@@ -294,7 +264,7 @@ fn write_open(
     errors: &mut [u32],
     extent: Extent,
 ) -> StepWritten
-    requires { ⌜ Small (now text) frame × (state .next < 0xFFFFE) × StepRoom (stepAt (now text) frame Modes.Format state) extent (now pieces) (now errors) × (state .at .0 < length (now text)) × Open (now text) Modes.Format (state .at .0) ⌝ }
+    requires { ⌜ Small (now text) frame × (state .next < 0xFFFFE) × StepRoom (stepAt (now text) frame Modes.Format state) extent (now pieces) (now errors) × OpenAt (now text) (state .at .0) ⌝ }
     ensures { λ r. ⌜ SteppedOn (now (text .entry)) frame Modes.Format state extent (now (pieces .entry)) (now (errors .entry)) r (now (pieces .exit)) (now (errors .exit)) ⌝ }
 {
     let i = state.at.0;
@@ -333,7 +303,7 @@ pub fn write_left(
     ensures { λ r. ⌜ SteppedOn (now (text .entry)) frame mode state extent (now (pieces .entry)) (now (errors .entry)) r (now (pieces .exit)) (now (errors .exit)) ⌝ }
 {
     let i = state.at.0;
-    if is_open(text, mode, i) {
+    if opens(text, mode, i) {
         return write_open(text, frame, state, pieces, errors, extent);
     }
     write_step(

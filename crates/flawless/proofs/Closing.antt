@@ -4,7 +4,7 @@ use mathlib.Core.Path.{_≡_, refl, sym, _∙_, ap}
 use mathlib.Core.Bool.{Bool, true, false, true≢false}
 use mathlib.Core.List.{List}
 use native.Mathlib.Omega.{arith}
-use borrow.Author.Tests.{eqb-true, eq-eqb, ne-eqb, le-ltb}
+use borrow.Author.Tests.{eqb-true, ne-eqb, le-ltb}
 use lib.Dec.{eqb}
 use lib.ListN.{length, getD}
 use Rattle.utf8.specs.Choice.{pick, both, within}
@@ -19,14 +19,13 @@ use Rattle.quick.specs.declared.PlaceholderTold.{PlaceholderTold}
 use Rattle.quick.specs.declared.SignHint.{SignHint}
 use Rattle.quick.specs.declared.SpecTold.{SpecTold}
 use Rattle.quick.specs.declared.TypeTold.{TypeTold}
-use Rattle.quick.specs.PartsTold.{Known, blankWord, rawWord, signByte, typeNone, onwardOf, TypeKnown, AllTold, SpecKnown, NoSpec, PlaceEnds}
-use Rattle.quick.specs.Tellings.{Tells}
+use Rattle.quick.specs.PartsTold.{Known, blankWord, rawWord, signByte, typeNone, TypeKnown, AllTold, SpecKnown, NoSpec, PlaceEnds}
+use Rattle.quick.specs.Tellings.{Tells, Flawless}
 use Rattle.scan.specs.AsciiWordLaws.{word-none}
 use Rattle.quick.proofs.Bytes.{no-space}
-use Rattle.quick.proofs.Endings.{brace-silent}
 use Rattle.quick.proofs.Parts.{type-named}
-use Rattle.quick.proofs.Wholes.{Ending, tells, sound-spec, sound-bare}
-use Rattle.told.specs.Told.{Flawless, Spoilt, Put}
+use Rattle.quick.proofs.Wholes.{tells, closed-ending, sound-spec, sound-bare}
+use Rattle.told.specs.Told.{Spoilt, Put}
 use Rattle.flawless.specs.Closed.{Ends, SpecEnds}
 
 -- A WORD that is not `_`
@@ -59,19 +58,6 @@ module _ {t : List ℕ} {at : ℕ} (b : getD t at 0 ≡ 0x7D) where
       let w : wordEnd t (place at) .0 ≡ at = word-none t at {b = 0x7D} (sym b) (omega arith) brace-start in
       rw (le-ltb at at (omega arith), no-blank (getD t at 0) at at (λ _ q. omega (arith, q))) at (type-named {t = t} {at = at} {end = at} (rw b brace-sign) (sym w) h)
 
-  -- a placeholder ends there
-  pub closed-ending : {p : PartTold} → Known p → Ending t p at true SignHint.Silent (at + 1)
-  unfolding onwardOf pick
-  closed-ending k =
-      record {
-        placed = k;
-        question = λ e. omega (arith, e, b);
-        dot = λ e. omega (arith, e, b);
-        brace = sym (eq-eqb (getD t at 0) 0x7D b);
-        said = brace-silent t at b;
-        goes = refl;
-      }
-
 -- no whitespace stands at a byte that is a sign
 pub no-gap : (t : List ℕ) (at c : ℕ) → getD t at 0 ≡ c → 0x20 < c → c < 0x80 → at ≡ runEnd isSpace t at
 no-gap t at c b h l = sym (no-space t at (sym b) h l)
@@ -92,6 +78,7 @@ tells-none n =
       placed = λ y. absurd (true≢false (sym y ∙ n));
       wide = λ y. absurd (true≢false (sym y ∙ n));
       precise = λ y. absurd (true≢false (sym y ∙ n));
+      counted = λ y. absurd (true≢false (sym y ∙ n));
       reached = λ y. absurd (true≢false (sym y ∙ n));
       closed = λ y. absurd (true≢false (sym y ∙ n));
       on = λ y. absurd (true≢false (sym y ∙ n));
@@ -103,6 +90,7 @@ spec-none t at n e h = (
     read = λ y. absurd (true≢false (sym y ∙ n));
     wide = λ y. absurd (true≢false (sym y ∙ n));
     precise = λ y. absurd (true≢false (sym y ∙ n));
+    counted = λ y. absurd (true≢false (sym y ∙ n));
     inside = rw e h;
   },
   record {

@@ -1,6 +1,6 @@
 // A placeholder of Format mode in which nothing is wrong, told and written, a short spec as a whole and any other part as soon as it is told: most of what templates hold. It leaves off at the
 // first part that is another: a count by an argument, a name or a star, a dot with no count behind it, a number of five digits, `x?`, `r#`, the word `_`, whitespace, a closing
-// brace that is missing. `told` tells most of these.
+// brace that is missing. `quick::whole` tells most of these.
 mod short; // short.rt: specs that are counts alone, or a word alone
 
 use crate::short::left_spec;
@@ -8,12 +8,12 @@ use crate::short::put_told_spec;
 use crate::short::short_spec;
 use frame::Frame;
 use frame::TextPlace;
+use passing::after::after_star;
 use quick::PartTold;
 use quick::PlaceholderTold;
 use quick::SignHint;
 use quick::SpecTold;
 use quick::TypeTold;
-use told::parts::after_star;
 use told::parts::put_bare;
 use told::parts::put_told_count;
 use told::parts::put_told_fill;
@@ -30,10 +30,10 @@ ghost use lib.ListN.{length, getD};
 ghost use Rattle.frame.specs.Bounds.{Small};
 ghost use Rattle.frame.specs.Places.{place as placeAt};
 ghost use Rattle.scan.specs.Words.{wordEnd};
-ghost use Rattle.quick.specs.Tellings.{specOf, argumentOf, Tells};
+ghost use Rattle.quick.specs.Tellings.{specOf, argumentOf, Tells, Flawless};
 ghost use Rattle.quick.specs.PartsTold.{Room, Known, PlaceTold, TypeKnown, SpecKnown, PlaceEnds};
 ghost use Rattle.words.specs.Layout.{specWords, argumentWords};
-ghost use Rattle.told.specs.Told.{Put, Flawless};
+ghost use Rattle.told.specs.Told.{Put};
 ghost use Rattle.flawless.specs.Closed.{Ends, SpecEnds};
 
 // The place of an argument. `r` with a `#` after it and the word `_` are not told; both are looked for only where a word is one byte long.
@@ -101,7 +101,7 @@ fn ends(text: &[u8], zero: bool, from: usize, width: PartTold, typed: TypeTold) 
     utf8::byte(text, typed.end) == b'}'
 }
 
-// Any spec from after its colon, told and written, up to its closing brace. Its marks are read as in `told`, in place: a call for both would stay a call.
+// Any spec from after its colon, told and written, up to its closing brace. Its marks are read as in `quick`'s `whole`, in place: a call for both would stay a call.
 fn write_any_spec(
     out: &mut [u32],
     k: usize,

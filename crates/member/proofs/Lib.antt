@@ -2,3 +2,4 @@
 pub mod Names
 pub mod Meeting
 pub mod Opening
+pub mod Clearing

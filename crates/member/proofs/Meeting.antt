@@ -25,6 +25,7 @@ use Rattle.faults.specs.Slots.{FirstWrong}
 use Rattle.membership.specs.Members.{number, date, isUnnamed, takes, isCalled}
 use Rattle.membership.specs.Verdicts.{firstWhere, secondWhere, piecesVerdict, textVerdict}
 use Rattle.membership.specs.declared.Verdict.{Verdict}
+use Rattle.passing.specs.Clear.{Clear}
 use Rattle.member.specs.Meetings.{firstAfter, againAfter, metAfter, metStep, told, metOf}
 use Rattle.member.specs.declared.Met.{Met}
 
@@ -162,38 +163,52 @@ module _ (t : List ℕ) (f : Frame) where
       let e = steps-none t f Mode.Format k s h in
       rw (w .met) (without (rw e at (sym (w .the-faults))) (rw (e, append-nil) at (w .the-pieces)))
 
-  module _ {k : ℕ} {s : State} {m : Met} (more : 0 < k) (walk : Walk k s m) {x : Step} (step : x ≡ stepAt t f Mode.Format s) {w : ℕ}
-      (first : FirstWrong x 0 w) where
-    -- a step that found something wrong
-    pub walk-wrong : w < 13 → Verdict.Broken 1 0 ≡ textVerdict t f
-    walk-wrong l =
-        with-faults
-        (λ e.
-        let d = ap length (walk .the-faults) in
-        let g = length-append (faultsOf x) (gather faultsOf (follow (stepsFrom (k - 1) t f Mode.Format) (onward s x))) in
-        let h : length (gather faultsOf (stepsFrom k t f Mode.Format s)) ≡ 0 = d ∙ e in
-        step-wrong first l (omega (arith, g, rw (steps-some t f Mode.Format s step k more, gather-more) at h)))
-
-    module _ (sound : 13 ≤ w) {n : Met} (new : n ≡ metStep t m x) where
+  module _ {k : ℕ} {s : State} {m : Met} (more : 0 < k) (walk : Walk k s m) {x : Step} (step : x ≡ stepAt t f Mode.Format s) where
+    -- a step that found nothing wrong, and what is met with it
+    module _ (sound : faultsOf x ≡ []) {n : Met} (new : n ≡ metStep t m x) where
       now-met : n ≡ metOf t (walk .past ++ piecesOf x)
       now-met = new ∙ ap (λ (m : Met). metStep t m x) (walk .met) ∙ met-step t (walk .past) x
 
       -- reading is over
-      pub walk-over : onward s x ≡ Onward.Over → told n ≡ textVerdict t f
-      walk-over o =
+      sound-over : onward s x ≡ Onward.Over → told n ≡ textVerdict t f
+      sound-over o =
           let e = steps-over t f Mode.Format s step k more o in
           rw now-met
-          (without (sym (walk .the-faults) ∙ rw (e, gather-one) (step-sound first sound)) (rw (e, gather-one) at (walk .the-pieces)))
+          (without (sym (walk .the-faults) ∙ rw (e, gather-one) sound) (rw (e, gather-one) at (walk .the-pieces)))
 
       -- reading goes on
-      pub walk-on : {a : State} → onward s x ≡ Onward.To a → Walk (k - 1) a n
-      walk-on {a} o =
+      sound-on : {a : State} → onward s x ≡ Onward.To a → Walk (k - 1) a n
+      sound-on {a} o =
           let e = steps-on t f Mode.Format s step k more o in
           record {
             past = walk .past ++ piecesOf x;
             met = now-met;
             the-pieces = rw append-assoc (rw (e, gather-more) at (walk .the-pieces));
-            the-faults = rw (e, gather-more, step-sound first sound) at (walk .the-faults);
+            the-faults = rw (e, gather-more, sound) at (walk .the-faults);
             few = omega (arith, more, walk .few, length-append (walk .past) (piecesOf x), piece-few x);
             kept = kept-on t f Mode.Format s step k more o (walk .kept);
           }
+
+    module _ {w : ℕ} (first : FirstWrong x 0 w) where
+      -- a step that found something wrong
+      pub walk-wrong : w < 13 → Verdict.Broken 1 0 ≡ textVerdict t f
+      walk-wrong l =
+          with-faults
+          (λ e.
+          let d = ap length (walk .the-faults) in
+          let g = length-append (faultsOf x) (gather faultsOf (follow (stepsFrom (k - 1) t f Mode.Format) (onward s x))) in
+          let h : length (gather faultsOf (stepsFrom k t f Mode.Format s)) ≡ 0 = d ∙ e in
+          step-wrong first l (omega (arith, g, rw (steps-some t f Mode.Format s step k more, gather-more) at h)))
+
+      -- and one that did not
+      pub walk-over : 13 ≤ w → {n : Met} → n ≡ metStep t m x → onward s x ≡ Onward.Over → told n ≡ textVerdict t f
+      walk-over l new o = sound-over (step-sound first l) new o
+
+      pub walk-on : 13 ≤ w → {n : Met} → n ≡ metStep t m x → {a : State} → onward s x ≡ Onward.To a → Walk (k - 1) a n
+      walk-on l new o = sound-on (step-sound first l) new o
+
+  -- a step that is clear
+  pub walk-clear : {k : ℕ} {s : State} {m : Met} → 0 < k → Walk k s m → {a : State} → Clear t f Mode.Format s a → {n : Met} → n ≡ metStep t m (stepAt t f Mode.Format s) →
+      Walk (k - 1) a n
+  unfolding faultsOf
+  walk-clear more walk c new = sound-on more walk refl (c .clean) new (c .goes)

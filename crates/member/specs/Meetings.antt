@@ -1,18 +1,26 @@
 -- What a run over the pieces has met, a piece at a time, and what it is told at the end. No contract of a call cites this. Rests on membership's definitions.
 use Prim.Native.Nat.{ℕ, _+_}
-use mathlib.Core.Bool.{Bool, false, not}
+use mathlib.Core.Path.{_≡_}
+use mathlib.Core.Bool.{Bool, true, false, not}
 use mathlib.Core.List.{List}
 use lib.Dec.{eqb, leb, ltb}
 use lib.ListN.{length}
 use Rattle.utf8.specs.Choice.{pick, either}
+use Rattle.frame.specs.declared.Frame.{Frame}
+use Rattle.frame.specs.declared.Mode.{Mode}
 use Rattle.placeholder.specs.declared.Place.{Place}
+use Rattle.reading.specs.Steps.{stepAt}
 use Rattle.reading.specs.declared.Piece.{Piece}
+use Rattle.reading.specs.declared.State.{State}
 use Rattle.reading.specs.declared.Step.{Step}
 use Rattle.membership.specs.Members.{number, date, isName, isUnnamed, isTaken, takes, isTheName, isCalled}
 use Rattle.membership.specs.Verdicts.{firstWhere, secondWhere}
 use Rattle.membership.specs.declared.Verdict.{Verdict}
 use Rattle.member.specs.declared.Sorts.{Sorts}
 use Rattle.member.specs.declared.Met.{Met}
+use Rattle.member.specs.declared.clear.MetOn.{MetOn}
+use Rattle.passing.specs.Clear.{Clear}
+use Rattle.quick.specs.declared.PlaceholderTold.{PlaceholderTold}
 
 -- the sorts of a placeholder, and of a literal
 abbrev pub sortsAt : List ℕ → Place → Bool → Sorts
@@ -87,3 +95,14 @@ metOf t ps =
       again = secondWhere (isCalled t number) ps;
       date = firstWhere (isCalled t date) ps;
     }
+
+-- one of the counts behind a colon is taken, by its tag: an argument's number, a star or a name
+unfoldable pub takenTold : PlaceholderTold → Bool
+takenTold x =
+    let precision = x .spec .precision .tag in
+    pick (x .colon) (pick (ltb 1 (x .spec .width .tag)) true (pick (eqb precision 5) false (ltb 1 precision))) false
+
+-- A STEP IN WHICH NOTHING IS WRONG is met: reading goes on, and its piece is one more
+pub record ClearMet (t : List ℕ) (f : Frame) (s : State) (m : Met) (r : MetOn) : Type 0 where
+  pub clear : r .on ≡ true → Clear t f Mode.Format s (r .state)
+  pub met : r .on ≡ true → r .met ≡ metStep t m (stepAt t f Mode.Format s)

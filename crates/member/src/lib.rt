@@ -1,4 +1,7 @@
 // Whether a text is a member template: one pass over the steps of its reading, no list lent.
+mod clear; // clear.rt: steps in which nothing is wrong, met without their records
+
+use crate::clear::met_clear;
 use frame::Frame;
 use frame::Mode;
 use membership::Verdict;
@@ -243,18 +246,25 @@ fn checked(text: &[u8], frame: Frame) -> Verdict
         date: 0,
     };
     while 0 < left {
-        let step = steps::step_at(text, frame, Mode::Format, state);
-        if faults::first_wrong(step, 0) < 13 {
-            return Verdict::Broken(1, 0);
-        }
-        met = met_step(text, met, step);
-        match steps::go_on(state, step) {
-            Onward::Over => {
-                return verdict_of(met);
+        let clear = met_clear(text, frame, state, met);
+        if clear.on {
+            state = clear.state;
+            met = clear.met;
+            left -= 1;
+        } else {
+            let step = steps::step_at(text, frame, Mode::Format, state);
+            if faults::first_wrong(step, 0) < 13 {
+                return Verdict::Broken(1, 0);
             }
-            Onward::To(after) => {
-                state = after;
-                left -= 1;
+            met = met_step(text, met, step);
+            match steps::go_on(state, step) {
+                Onward::Over => {
+                    return verdict_of(met);
+                }
+                Onward::To(after) => {
+                    state = after;
+                    left -= 1;
+                }
             }
         }
     }

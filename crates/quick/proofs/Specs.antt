@@ -132,5 +132,6 @@ module _ {t : List ℕ} {from : ℕ} {al : AlignRead} {si : SignRead} {ha fl : C
             );
         wide = λ y. wi .most (all y .wide);
         precise = λ y. pr .most (all y .precise);
+        counted = λ _. wi .inside;
         inside = ki .inside;
       }

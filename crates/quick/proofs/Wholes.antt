@@ -5,7 +5,7 @@ use mathlib.Core.Bool.{Bool, true, false, not, true≢false}
 use mathlib.Core.List.{List}
 use native.Mathlib.Nat.{add-zero}
 use native.Mathlib.Omega.{arith}
-use borrow.Author.Tests.{eqb-true, eqb-false}
+use borrow.Author.Tests.{eqb-true, eqb-false, eq-eqb}
 use lib.Dec.{eqb}
 use lib.ListN.{length, getD}
 use Rattle.utf8.specs.Choice.{pick}
@@ -38,7 +38,7 @@ use Rattle.quick.specs.Tellings.{foundOf, afterStar, specOf, argumentOf,
 use Rattle.quick.specs.PartsTold.{Known, hintOf, onwardOf, specFound, SpecKnown, NoSpec, LeftTold, PlaceTold, PlaceEnds}
 use Rattle.scan.specs.AsciiWordLaws.{byte-in}
 use Rattle.quick.proofs.Bytes.{has, lacks, run-again}
-use Rattle.quick.proofs.Endings.{past-byte, recover-told, hint-in}
+use Rattle.quick.proofs.Endings.{past-byte, recover-told, hint-in, brace-silent}
 
 -- the spec that is told, with its colon
 abbrev pub specTold : List ℕ → Frame → ℕ → PlaceholderTold → SpecRead
@@ -76,6 +76,7 @@ pub record Sound (t : List ℕ) (x : PlaceholderTold) : Type 0 where
   pub colon : x .colon ≡ true → getD t (x .to) 0 ≡ 0x3A
   pub wide : x .spec .width .tag ≤ 4
   pub precise : x .spec .precision .tag ≤ 5
+  pub counted : x .spec .width .end ≤ length t
   pub inside : x .spec .typed .end ≤ length t
   pub closing : x .close ≡ runEnd isSpace t (x .spec .typed .end)
   pub ending : Ending t (x .place) (x .close) (x .closed) (x .hint) (x .on)
@@ -200,6 +201,7 @@ tells {t} {at} {x} e s =
       placed = λ y. e .placed .most (s y .ending .placed);
       wide = λ y. s y .wide;
       precise = λ y. s y .precise;
+      counted = λ y. s y .counted;
       reached = λ y. rw (e .ends) (run-in isSpace t (x .place .end) (e .placed .inside));
       closed = λ y. close-in (s y);
       on = λ y. on-in (s y .ending) (close-in (s y));
@@ -218,6 +220,19 @@ ending q l h g =
       goes = g;
     }
 
+-- and a closing brace ends it
+pub closed-ending : {t : List ℕ} {at : ℕ} → getD t at 0 ≡ 0x7D → {p : PartTold} → Known p → Ending t p at true SignHint.Silent (at + 1)
+unfolding onwardOf pick
+closed-ending {t} {at} b k =
+    record {
+      placed = k;
+      question = λ e. omega (arith, e, b);
+      dot = λ e. omega (arith, e, b);
+      brace = sym (eq-eqb (getD t at 0) 0x7D b);
+      said = brace-silent t at b;
+      goes = refl;
+    }
+
 module _ {t : List ℕ} {p : PartTold} {to on : ℕ} {o closed : Bool} {hint : SignHint} {s : SpecTold} where
   -- with a colon and a spec
   pub sound-spec : {close : ℕ} → getD t to 0 ≡ 0x3A → SpecKnown t (to + 1) s → s .ok ≡ true → close ≡ runEnd isSpace t (s .typed .end) →
@@ -230,6 +245,7 @@ module _ {t : List ℕ} {p : PartTold} {to on : ℕ} {o closed : Bool} {hint : S
         colon = λ _. b;
         wide = k .wide y;
         precise = k .precise y;
+        counted = k .counted y;
         inside = k .inside;
         closing = r;
         ending = e;
@@ -250,7 +266,32 @@ module _ {t : List ℕ} {p : PartTold} {to on : ℕ} {o closed : Bool} {hint : S
         colon = λ z. absurd (true≢false (sym z));
         wide = rw (k .wide) (omega arith);
         precise = rw (k .precise) (omega arith);
+        counted = rw (k .wide, r .ends) (run-in isSpace t (p .end) (r .placed .inside));
         inside = rw (k .ends, r .ends) (run-in isSpace t (p .end) (r .placed .inside));
         closing = rw (k .ends, r .ends) (sym (run-again isSpace t (p .end)));
         ending = e;
       }
+
+-- with one or without, as the byte says that stands where its place ends
+module _ {t : List ℕ} {at to b : ℕ} {p : PartTold} {s : SpecTold} (e : PlaceEnds t at p to) (q : b ≡ getD t to 0)
+    (k : (eqb b 0x3A ≡ true → SpecKnown t (to + 1) s) × (eqb b 0x3A ≡ false → NoSpec to s)) where
+  to-in : to ≤ length t
+  to-in = rw (e .ends) (run-in isSpace t (p .end) (e .placed .inside))
+
+  -- its spec ends within the text
+  pub spec-inside : s .typed .end ≤ length t
+  spec-inside = go (eqb b 0x3A) refl
+    where
+      go : (x : Bool) → eqb b 0x3A ≡ x → s .typed .end ≤ length t
+      go true z = k .0 z .inside
+      go false z = rw (k .1 z .ends) to-in
+
+  pub sound-either : {close on : ℕ} {o closed : Bool} {hint : SignHint} → s .ok ≡ true → close ≡ runEnd isSpace t (s .typed .end) → Ending t p close closed hint on →
+      Sound t (record { ok = o; place = p; to = to; colon = eqb b 0x3A; spec = s; close = close; closed = closed; hint = hint; on = on })
+  sound-either {close} {on} {o} {closed} {hint} y r n = go (eqb b 0x3A) refl
+    where
+      go : (x : Bool) → eqb b 0x3A ≡ x → Sound t (record { ok = o; place = p; to = to; colon = eqb b 0x3A; spec = s; close = close; closed = closed; hint = hint; on = on })
+      go true z = rw z (sound-spec (sym q ∙ eqb-true b 0x3A z) (k .0 z) y r n)
+      go false z =
+          let c : close ≡ to = r ∙ rw (k .1 z .ends, e .ends) (run-again isSpace t (p .end)) in
+          rw (z, c) (sound-bare (λ d. eqb-false b 0x3A z (q ∙ d)) (k .1 z) e (rw c at n))

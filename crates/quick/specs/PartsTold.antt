@@ -200,6 +200,7 @@ pub record SpecKnown (t : List ℕ) (at : ℕ) (s : SpecTold) : Type 0 where
   pub read : s .ok ≡ true → (f : Frame) (n : ℕ) → formatRead t f (place at) n ≡ specFound t f at n s
   pub wide : s .ok ≡ true → s .width .tag ≤ 4
   pub precise : s .ok ≡ true → s .precision .tag ≤ 5
+  pub counted : s .ok ≡ true → s .width .end ≤ length t
   pub inside : s .typed .end ≤ length t
 
 -- no spec, where reading stood

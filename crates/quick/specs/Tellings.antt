@@ -1,7 +1,7 @@
 -- What is told of a placeholder, in the records that `closing` reads. A tag of 9, and what is not `ok`, means nothing: it is not told.
 use Prim.Native.Nat.{ℕ, _+_, _-_, _≤_}
 use mathlib.Core.Path.{_≡_}
-use mathlib.Core.Bool.{Bool, true, not}
+use mathlib.Core.Bool.{Bool, true, false, not}
 use mathlib.Core.List.{List}
 use lib.Dec.{eqb}
 use lib.ListN.{length}
@@ -181,6 +181,14 @@ pub record Tells (t : List ℕ) (at : ℕ) (x : PlaceholderTold) : Type 0 where
   pub placed : x .ok ≡ true → x .place .tag ≤ 2
   pub wide : x .ok ≡ true → x .spec .width .tag ≤ 4
   pub precise : x .ok ≡ true → x .spec .precision .tag ≤ 5
+  pub counted : x .ok ≡ true → x .spec .width .end ≤ length t
   pub reached : x .ok ≡ true → x .to ≤ length t
   pub closed : x .ok ≡ true → x .close ≤ length t
   pub on : x .ok ≡ true → x .on ≤ length t
+
+-- NOTHING IS WRONG in what is told
+pub record Flawless (x : PlaceholderTold) : Type 0 where
+  pub closed : x .closed ≡ true
+  pub placed : x .place .blank ≡ false
+  pub wide : x .spec .width .blank ≡ false
+  pub typed : x .spec .typed .blank ≡ false

@@ -1,5 +1,8 @@
 // The parts of a placeholder of Format mode, told in plain numbers, with the faults that need no more than a look: a word `_`, and a closing brace
-// that is missing. What they tell is what `closing` reads, and what they do not tell is left to it. `told` and `flawless` write each part as soon as it is told.
+// that is missing. What they tell is what `closing` reads, and what they do not tell is left to it. `whole` puts them together; `flawless` writes each part as soon as it is told.
+pub mod whole; // whole.rt: a placeholder by its parts, whatever is wrong in it
+pub mod clear; // clear.rt: one that ends at its closing brace, for runs that write nothing
+
 use frame::TextPlace;
 use placeholder::Align;
 use placeholder::Hex;

@@ -20,6 +20,7 @@ use Rattle.reading.specs.Lists.{gather, piecesOf, pieces, closedSpan, placesOf,
 use Rattle.laws.specs.Counting.{pieceCount, closedCount, placeCount, closingLines, lineCount, stepCounts, sum, Countable}
 use Rattle.laws.specs.ListLaws.{gather-one, errors-length, literal-more, plainLines, lines-length}
 use Rattle.laws.specs.OrderLaws.{lines-plain}
+use Rattle.passing.specs.Clear.{Clear}
 use Rattle.reading.specs.declared.State.{State}
 use Rattle.reading.specs.declared.Step.{Step}
 use Rattle.reading.specs.declared.Onward.{Onward}
@@ -162,6 +163,17 @@ place-few (Step.Placeholder p) = go (p .closing)
 -- counts that are added add up to no more than both limits
 pub countable-sum : {p q r : ℕ} {a b c : Counts} → Countable p a → Countable q b → c ≡ sum a b → p + q ≤ r → Countable r c
 countable-sum {r = r} x y e l = subst (Countable r) (sym e) (omega arith)
+
+-- A STEP THAT IS PASSED adds a piece and nothing else, where there are no argument places and no lines
+pub clear-counts : (t : List ℕ) (f : Frame) (m : Mode) (s : State) {a : State} → Clear t f m s a → f .literal ≡ false → stepCounts t f (stepAt t f m s) ≡ made 1 0 0 0
+unfolding stepCounts faultsOf pick
+clear-counts t f m s c e = same (c .one) (ap length (c .clean)) (rw e refl) (rw e refl)
+
+pub one-more : (a : Counts) {b c : Counts} → c ≡ made (a .pieces + 1) (a .errors) (a .places) (a .lines) → b ≡ made 1 0 0 0 → c ≡ sum a b
+one-more a e q = rw q (e ∙ same refl (sym (add-zero _)) (sym (add-zero _)) (sym (add-zero _)))
+
+pub one-countable : {b : Counts} → b ≡ made 1 0 0 0 → Countable 131070 b
+one-countable e = subst (Countable 131070) (sym e) (omega arith)
 
 -- a turn of the tally, from a state with turns left: the step x there comes to b, and with the counts a before it to c
 module _ (t : List ℕ) (f : Frame) (m : Mode) (k : ℕ) (s : State) (a : Counts) {x : Step} {o : Onward} {b c : Counts} (h : 0 < k)

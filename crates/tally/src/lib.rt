@@ -8,6 +8,7 @@ use frame::Frame;
 use frame::Mode;
 use frame::TextPlace;
 use frame::TextRange;
+use passing::Passed;
 use placeholder::ArgumentFlaws;
 use reading::Counts;
 use reading::Onward;
@@ -16,6 +17,7 @@ use reading::Step;
 use scan::Flaw;
 use utf8::Seen;
 ghost use mathlib.Core.Path.{_≡_};
+ghost use mathlib.Core.Bool.{true, false};
 ghost use mathlib.Core.List.{[], _∷_};
 ghost use Prim.Native.Nat.{_+_, _≤_, _<_};
 ghost use lib.ListN.{length};
@@ -27,6 +29,7 @@ ghost use Rattle.reading.specs.Wants.{wants};
 ghost use Rattle.reading.specs.Moves.{moves};
 ghost use Rattle.utf8.specs.Chars.{charsFrom};
 ghost use Rattle.laws.specs.MoveLaws.{movesTold};
+ghost use Rattle.passing.specs.Clear.{Passes};
 ghost use Rattle.laws.specs.Counting.{Countable, sum, pieceCount, placeCount, closingLines, lineCount, stepCounts};
 
 // How many records, how many arguments, and how many moves.
@@ -259,6 +262,30 @@ fn finished(text: &[u8], chars: usize, counts: Counts, state: State, given: usiz
     }
 }
 
+// A piece more, and nothing else.
+fn one_piece_more(counts: Counts) -> Counts
+    requires { ⌜ Countable 0xFFFFFFFFFFFF counts ⌝ }
+    ensures { λ r. ⌜ r ≡ record { pieces = counts .pieces + 1; errors = counts .errors; places = counts .places; lines = counts .lines } ⌝ }
+{
+    Counts {
+        pieces: counts.pieces + 1,
+        errors: counts.errors,
+        places: counts.places,
+        lines: counts.lines,
+    }
+}
+
+// The step where reading stands, passed where it adds a piece and nothing else. Of a source literal none is: its steps may add argument places and line spans.
+fn pass_piece(text: &[u8], frame: Frame, mode: Mode, state: State) -> Passed
+    requires { ⌜ Small (now text) frame × (state .next < 0xFFFFE) ⌝ }
+    ensures { λ r. ⌜ Passes (now (text .entry)) frame mode state r × (r .on ≡ true → frame .literal ≡ false) ⌝ }
+{
+    if frame.literal {
+        return passing::stay(state);
+    }
+    passing::pass(text, frame, mode, state)
+}
+
 // How many records the reading of a text with so many characters needs in each list, and its figures; the state keeps how many arguments its
 // pieces want.
 pub fn tally(text: &[u8], chars: usize, frame: Frame, mode: Mode) -> Tallied
@@ -279,16 +306,25 @@ pub fn tally(text: &[u8], chars: usize, frame: Frame, mode: Mode) -> Tallied
     let mut given = 0;
     let mut left = text.len() + 1;
     while 0 < left {
-        let step = steps::step_at(text, frame, mode, state);
-        counts = add(counts, step_counts(text, frame, step));
-        given += steps::given_by(step);
-        match steps::go_on(state, step) {
-            Onward::Over => {
-                return finished(text, chars, counts, state, given);
-            }
-            Onward::To(after) => {
-                state = after;
-                left -= 1;
+        // most steps are passed; the others are taken whole
+        let passed = pass_piece(text, frame, mode, state);
+        if passed.on {
+            state = passed.state;
+            counts = one_piece_more(counts);
+            given += passed.given;
+            left -= 1;
+        } else {
+            let step = steps::step_at(text, frame, mode, state);
+            counts = add(counts, step_counts(text, frame, step));
+            given += steps::given_by(step);
+            match steps::go_on(state, step) {
+                Onward::Over => {
+                    return finished(text, chars, counts, state, given);
+                }
+                Onward::To(after) => {
+                    state = after;
+                    left -= 1;
+                }
             }
         }
     }

@@ -1,12 +1,10 @@
-// The parts of a placeholder that is told, written, and where reading stands after it.
+// The parts of a placeholder that is told, written.
 use frame::Frame;
 use frame::Span;
 use frame::TextPlace;
 use quick::PartTold;
 use quick::PlaceholderTold;
 use quick::TypeTold;
-use reading::State;
-use steps::wants::larger_of;
 use words::hex_word;
 use words::low;
 use words::put_zeros;
@@ -21,11 +19,11 @@ ghost use Rattle.utf8.specs.Utf8.{peekAt};
 ghost use Rattle.frame.specs.Places.{place as placeAt};
 ghost use Rattle.frame.specs.Bounds.{Small};
 ghost use Rattle.placeholder.specs.Specs.{noSpec};
-ghost use Rattle.reading.specs.Wants.{larger, countWants};
-ghost use Rattle.quick.specs.Tellings.{codeSeen, fillOf, countOf, widthOf, precisionOf, countSpan, afterStar};
+ghost use Rattle.quick.specs.Tellings.{codeSeen, fillOf, countOf, widthOf, precisionOf, countSpan};
 ghost use Rattle.words.specs.Laid.{laid};
 ghost use Rattle.words.specs.Layout.{lowOf, placeWords, fillWords, countWords, specWords};
-ghost use Rattle.told.specs.Told.{Put, Sound, placeOf, toldHead, nameWords, typeWords, widthWants, precisionWants, withCounts, toldState};
+ghost use Rattle.passing.specs.After.{placeOf};
+ghost use Rattle.told.specs.Told.{Put, Sound, toldHead, nameWords, typeWords};
 
 // The place of what is told, which starts at `at`.
 fn put_told_place(out: &mut [u32], k: usize, place: PartTold, at: usize, next: usize, span: Span)
@@ -248,95 +246,4 @@ pub fn put_told_type(out: &mut [u32], k: usize, text: &[u8], frame: Frame, typed
         return;
     }
     put4(out, k + 4, 0, 0, 0, 0);
-}
-
-// The next argument's number after a star.
-pub fn after_star(part: PartTold, next: usize) -> usize
-    requires { ⌜ next < 0xFFFFE ⌝ }
-    ensures { λ r. ⌜ r ≡ afterStar next part ⌝ }
-{
-    if part.tag == 3 { next + 1 } else { next }
-}
-
-// How many arguments a count wants that is neither absent nor fixed.
-fn count_wants(part: PartTold, next: usize) -> usize
-    requires { ⌜ (next < 0xFFFFF) × (1 < part .tag) ⌝ }
-    ensures { λ r. ⌜ r ≡ countWants (countOf next part) ⌝ }
-{
-    if part.tag == 2 {
-        return part.value as usize + 1;
-    }
-    next + 1
-}
-
-// The larger of a figure and what a width wants: most want none, nor does one that is a name.
-fn with_width(part: PartTold, next: usize, figure: usize) -> usize
-    requires { ⌜ next < 0xFFFFF ⌝ }
-    ensures { λ r. ⌜ r ≡ larger figure (widthWants next part) ⌝ }
-{
-    if part.tag <= 1 {
-        return figure;
-    }
-    if part.tag == 4 {
-        return figure;
-    }
-    larger_of(figure, count_wants(part, next))
-}
-
-// The same of a precision: a dot with no count behind it wants none.
-fn with_precision(part: PartTold, next: usize, figure: usize) -> usize
-    requires { ⌜ next < 0xFFFFF ⌝ }
-    ensures { λ r. ⌜ r ≡ larger figure (precisionWants next part) ⌝ }
-{
-    if part.tag == 5 {
-        return figure;
-    }
-    with_width(part, next, figure)
-}
-
-// The same of what is told behind a colon.
-fn with_counts(told: PlaceholderTold, next: usize, figure: usize) -> usize
-    requires { ⌜ next < 0xFFFFF ⌝ }
-    ensures { λ r. ⌜ r ≡ withCounts next figure told ⌝ }
-{
-    if !told.colon {
-        return figure;
-    }
-    let spec = told.spec;
-    let wide = with_width(spec.width, next, figure);
-    with_precision(spec.precision, next, wide)
-}
-
-// Where reading stands after what is told: a star takes an argument's number, and then a place that is not written.
-pub fn after_told(state: State, told: PlaceholderTold) -> State
-    requires { ⌜ state .next < 0xFFFFE ⌝ }
-    ensures { λ r. ⌜ r ≡ toldState state told ⌝ }
-{
-    let spec = told.spec;
-    let place = told.place;
-    let at = TextPlace(told.on);
-    let after = after_star(spec.precision, state.next);
-    let figure = with_counts(told, state.next, state.arguments);
-    if place.tag == 0 {
-        let next = after + 1;
-        let arguments = larger_of(figure, next);
-        return State {
-            at,
-            next,
-            arguments,
-        };
-    }
-    if place.tag == 1 {
-        let arguments = larger_of(figure, place.value as usize + 1);
-        return State {
-            at,
-            next: after,
-            arguments,
-        };
-    }
-    State {
-        at,
-        next: after,
-        arguments: figure,
-    }
 }

@@ -1,4 +1,7 @@
 // The totals of texts: one text's added to those so far, in one pass over the steps of its reading; and those of a list in memory.
+mod clear; // clear.rt: steps in which nothing is wrong, counted without their records
+
+use crate::clear::add_clear;
 use frame::Frame;
 use frame::Mode;
 use frame::Style;
@@ -131,7 +134,7 @@ fn both(a: bool, b: bool) -> bool
     if a { b } else { false }
 }
 
-// Counts the steps of a text that is not refused, one after the other; says whether none found anything wrong.
+// Counts the steps of a text that is not refused, one after the other; says whether none found anything wrong. One that is clear needs no record.
 fn add_steps(text: &[u8], frame: Frame, totals: &mut [usize]) -> bool
     requires { ⌜ Small (now text) frame × Room 0xF0001 (now totals) ⌝ }
     ensures { λ r. ⌜ (now (totals .exit) ≡ added 0 (now (totals .entry)) (gather stepLines (reading (now (text .entry)) frame Mode.Format))) × (r ≡ isNone (gather faultsOf (reading (now (text .entry)) frame Mode.Format))) × Room 1 (now (totals .exit)) ⌝ }
@@ -141,15 +144,21 @@ fn add_steps(text: &[u8], frame: Frame, totals: &mut [usize]) -> bool
     let mut left = cursor.left;
     let mut sound = true;
     while 0 < left {
-        let step = steps::step_at(text, frame, Mode::Format, state);
-        sound = both(sound, add_step(text, frame, step, &mut *totals));
-        match steps::go_on(state, step) {
-            Onward::Over => {
-                return sound;
-            }
-            Onward::To(after) => {
-                state = after;
-                left -= 1;
+        let passed = add_clear(text, frame, state, &mut *totals);
+        if passed.on {
+            state = passed.state;
+            left -= 1;
+        } else {
+            let step = steps::step_at(text, frame, Mode::Format, state);
+            sound = both(sound, add_step(text, frame, step, &mut *totals));
+            match steps::go_on(state, step) {
+                Onward::Over => {
+                    return sound;
+                }
+                Onward::To(after) => {
+                    state = after;
+                    left -= 1;
+                }
             }
         }
     }

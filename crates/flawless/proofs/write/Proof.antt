@@ -6,7 +6,8 @@ use mathlib.Core.Bool.{true≢false}
 use denote.Ref.{now}
 use Prim.Native.Nat.{_*_}
 use Rattle.quick.proofs.Wholes.{place-ends}
-use Rattle.told.proofs.Telling.{bare-untold, bare-told, star-none, told-sound}
+use Rattle.passing.proofs.Afters.{star-none}
+use Rattle.told.proofs.Telling.{bare-untold, bare-told, told-sound}
 use Rattle.flawless.proofs.Closing.{no-gap, tells-none, bare-tells, bare-flawless}
 use Rattle.flawless.proofs.write.Statement.{statement}
 use Rattle.flawless.proofs.write.Tie as tie

@@ -4,7 +4,7 @@ use borrow.Author.Needs.{needs}
 use mathlib.Core.Path.{sym, _∙_}
 use native.Mathlib.Omega.{arith}
 use Rattle.laws.specs.WantLaws.{few-step}
-use Rattle.member.proofs.Meeting.{Walk, walk-start, walk-few, walk-none, walk-wrong, walk-over, walk-on}
+use Rattle.member.proofs.Meeting.{Walk, walk-start, walk-few, walk-none, walk-wrong, walk-over, walk-on, walk-clear}
 use Rattle.member.proofs.checked.Statement.{statement}
 use Rattle.member.proofs.checked.Tie as tie
 
@@ -20,10 +20,28 @@ first-cursor-requires c κs = c .before .pre .text
 loop-holds : tie.Need-loop-holds Inv-loop μ-loop
 loop-holds c = rw (c .before .first-cursor .ensures) (walk-start _ _ (c .before .before .before .pre .text))
 
+met-clear-requires : tie.Need-met-clear-requires Inv-loop μ-loop
+met-clear-requires c κs =
+    let small = c .before .before .before .before .before .pre in
+    let inv = c .before .loop .inv in
+    (small, omega (arith, inv .kept .next), walk-few _ _ (small .text) inv)
+
+sub-left : tie.Need-sub-left Inv-loop μ-loop
+sub-left c = omega (arith, c .before .before .before .before .loop-test .taken)
+
+loop-less : tie.Need-loop-less Inv-loop μ-loop
+loop-less c = omega (arith, c .before .before .before .before .loop-test .taken)
+
+loop-again : tie.Need-loop-again Inv-loop μ-loop
+loop-again c =
+    let met = c .before .before .before .met-clear .ensures in
+    let y = c .before .before .if1 .taken in
+    walk-clear _ _ (c .before .before .before .before .loop-test .taken) (c .before .before .before .before .before .loop .inv) (met .clear y) (met .met y)
+
 step-at-requires : tie.Need-step-at-requires Inv-loop μ-loop
 step-at-requires c κs =
-    let small = c .before .before .before .before .before .pre in
-    (small, omega (arith, c .before .loop .inv .kept .next))
+    let small = c .before .before .before .before .before .before .before .pre in
+    (small, omega (arith, c .before .before .before .loop .inv .kept .next))
 
 first-wrong-requires : tie.Need-first-wrong-requires Inv-loop μ-loop
 first-wrong-requires c κs = omega arith
@@ -31,17 +49,17 @@ first-wrong-requires c κs = omega arith
 returns : tie.Need-returns Inv-loop μ-loop
 returns c =
     let at-step = c .before .before in
-    walk-wrong _ _ (at-step .before .loop-test .taken) (at-step .before .before .loop .inv) (at-step .step-at .ensures)
-    (c .before .first-wrong .ensures) (c .if1 .taken)
+    walk-wrong _ _ (at-step .before .before .before .loop-test .taken) (at-step .before .before .before .before .loop .inv) (at-step .step-at .ensures)
+    (c .before .first-wrong .ensures) (c .if2 .taken)
 
 met-step-requires : tie.Need-met-step-requires Inv-loop μ-loop
 met-step-requires c κs =
-    let at-loop = c .before .before .before .before in
+    let at-loop = c .before .before .before .before .before .before in
     walk-few _ _ (at-loop .before .before .before .before .pre .text) (at-loop .loop .inv)
 
 go-on-requires : tie.Need-go-on-requires Inv-loop μ-loop
 go-on-requires c κs =
-    few-step _ _ _ _ (omega (arith, c .before .before .before .before .before .loop .inv .kept .next)) (c .before .before .before .step-at .ensures)
+    few-step _ _ _ _ (omega (arith, c .before .before .before .before .before .before .before .loop .inv .kept .next)) (c .before .before .before .step-at .ensures)
 
 enum-told : tie.Need-enum-told Inv-loop μ-loop
 enum-told c = search needs
@@ -54,25 +72,25 @@ returns-2 c =
     let at-met = c .before .before .before .before in
     let at-step = at-met .before .before .before in
     c .verdict-of .ensures
-    ∙ walk-over _ _ (at-step .before .loop-test .taken) (at-step .before .before .loop .inv) (at-step .step-at .ensures)
-    (at-met .before .before .first-wrong .ensures) (at-met .before .if1 .left) (at-met .met-step .ensures)
+    ∙ walk-over _ _ (at-step .before .before .before .loop-test .taken) (at-step .before .before .before .before .loop .inv) (at-step .step-at .ensures)
+    (at-met .before .before .first-wrong .ensures) (at-met .before .if2 .left) (at-met .met-step .ensures)
     (sym (c .before .before .before .go-on .ensures) ∙ c .before .enum-told .given .1)
 
 enum-known-after : tie.Need-enum-known-after Inv-loop μ-loop
 enum-known-after c = search needs
 
-sub-left : tie.Need-sub-left Inv-loop μ-loop
-sub-left c = omega (arith, c .before .before .before .before .before .before .before .before .loop-test .taken)
+sub-left-2 : tie.Need-sub-left-2 Inv-loop μ-loop
+sub-left-2 c = omega (arith, c .before .before .before .before .before .before .before .before .before .before .loop-test .taken)
 
-loop-less : tie.Need-loop-less Inv-loop μ-loop
-loop-less c = omega (arith, c .before .before .before .before .before .before .before .before .loop-test .taken)
+loop-less-2 : tie.Need-loop-less-2 Inv-loop μ-loop
+loop-less-2 c = omega (arith, c .before .before .before .before .before .before .before .before .before .before .loop-test .taken)
 
-loop-again : tie.Need-loop-again Inv-loop μ-loop
-loop-again c =
+loop-again-2 : tie.Need-loop-again-2 Inv-loop μ-loop
+loop-again-2 c =
     let at-met = c .before .before .before .before in
     let at-step = at-met .before .before .before in
-    walk-on _ _ (at-step .before .loop-test .taken) (at-step .before .before .loop .inv) (at-step .step-at .ensures)
-    (at-met .before .before .first-wrong .ensures) (at-met .before .if1 .left) (at-met .met-step .ensures)
+    walk-on _ _ (at-step .before .before .before .loop-test .taken) (at-step .before .before .before .before .loop .inv) (at-step .step-at .ensures)
+    (at-met .before .before .first-wrong .ensures) (at-met .before .if2 .left) (at-met .met-step .ensures)
     (sym (c .before .before .before .go-on .ensures) ∙ c .before .after .given .1)
 
 verdict-of-requires-2 : tie.Need-verdict-of-requires-2 Inv-loop μ-loop
@@ -89,6 +107,10 @@ checked-spec =
     μ-loop
     first-cursor-requires
     loop-holds
+    met-clear-requires
+    sub-left
+    loop-less
+    loop-again
     step-at-requires
     first-wrong-requires
     returns
@@ -98,8 +120,8 @@ checked-spec =
     verdict-of-requires
     returns-2
     enum-known-after
-    sub-left
-    loop-less
-    loop-again
+    sub-left-2
+    loop-less-2
+    loop-again-2
     verdict-of-requires-2
     returns-3)

@@ -47,19 +47,19 @@ add-n c =
 add-given : tie.Need-add-given Inv-loop μ-loop
 add-given c =
     let g = c .before .before .before .before .before .before .before .before .loop .inv in
-    omega (arith, c .before .before .before .before .before .before .before .before .before .before .before .pre .1 .given (g .way), c .before .before .before .before .before .before .pass .ensures .given (not-false _ (c .before .if1 .left)))
+    omega (arith, c .before .before .before .before .before .before .before .before .before .before .before .pre .1 .given (g .way), c .before .before .before .before .before .before .pass .ensures .passes .given (not-false _ (c .before .if1 .left)))
 
 loop-less : tie.Need-loop-less Inv-loop μ-loop
 loop-less c =
     let a = c .before .before .before .before .before .before .before .before .before .before .before .args in
-    clear-later (now (a .text)) (a .frame) (a .mode) _ _ (c .before .before .before .before .before .before .pass .ensures .clear (not-false _ (c .before .if1 .left)))
+    clear-later (now (a .text)) (a .frame) (a .mode) _ _ (c .before .before .before .before .before .before .pass .ensures .passes .clear (not-false _ (c .before .if1 .left)))
 
 loop-again : tie.Need-loop-again Inv-loop μ-loop
 loop-again c =
     let a = c .before .before .before .before .before .before .before .before .before .before .before .args in
     let yes = not-false _ (c .before .if1 .left) in
     let p = c .before .before .before .before .before .before .pass .ensures in
-    way-on (now (a .text)) (a .frame) (a .mode) (a .from) (a .written) (now (a .pieces)) (c .before .before .before .before .before .before .before .before .before .before .before .pre .1) (c .before .before .before .before .before .before .before .before .loop .inv) (p .clear yes) (p .wrote yes) (p .given yes)
+    way-on (now (a .text)) (a .frame) (a .mode) (a .from) (a .written) (now (a .pieces)) (c .before .before .before .before .before .before .before .before .before .before .before .pre .1) (c .before .before .before .before .before .before .before .before .loop .inv) (p .passes .clear yes) (p .wrote yes) (p .passes .given yes)
 
 pub lane-spec : {M : Type 1} → statement M
 lane-spec =

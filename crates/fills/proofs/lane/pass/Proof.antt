@@ -6,8 +6,9 @@ use denote.Ref.{now}
 use Rattle.frame.specs.Places.{rangeOf}
 use Rattle.frame.specs.declared.TextPlace.{TextPlace}
 use Rattle.reading.specs.declared.Step.{Step}
+use Rattle.passing.proofs.Passings.{not-on}
 use Rattle.fills.proofs.Passing.{stopped-none}
-use Rattle.fills.proofs.Stepping.{step-literal}
+use Rattle.passing.proofs.Stepping.{step-literal}
 use Rattle.fills.proofs.lane.pass.Statement.{statement}
 use Rattle.fills.proofs.lane.pass.Tie as tie
 
@@ -15,7 +16,7 @@ stay-requires : tie.Need-stay-requires
 stay-requires c κs = search needs
 
 returns : tie.Need-returns
-returns c = let a = c .before .before .before .before .before .args in stopped-none (now (a .text)) (a .frame) (a .mode) (a .state) (a .n) (now (a .pieces)) (c .stay .ensures)
+returns c = let a = c .before .before .before .before .before .args in stopped-none (now (a .text)) (a .frame) (a .mode) (a .state) (a .n) (now (a .pieces)) (not-on (c .stay .ensures))
 
 shared-slice-read-b : tie.Need-shared-slice-read-b
 shared-slice-read-b c = search needs
@@ -50,7 +51,7 @@ stay-requires-2 : tie.Need-stay-requires-2
 stay-requires-2 c κs = search needs
 
 returns-4 : tie.Need-returns-4
-returns-4 c = let a = c .before .before .before .before .before .before .before .before .before .before .args in stopped-none (now (a .text)) (a .frame) (a .mode) (a .state) (a .n) (now (a .pieces)) (c .stay2 .ensures)
+returns-4 c = let a = c .before .before .before .before .before .before .before .before .before .before .args in stopped-none (now (a .text)) (a .frame) (a .mode) (a .state) (a .n) (now (a .pieces)) (not-on (c .stay2 .ensures))
 
 literal-end-requires : tie.Need-literal-end-requires
 literal-end-requires c κs = search needs

@@ -4,6 +4,7 @@ use borrow.Author.Tests.{not-false}
 use mathlib.Core.Path.{sym, _∙_}
 use mathlib.Core.Logic.{inl}
 use denote.Ref.{now}
+use Rattle.passing.proofs.Passings.{not-on}
 use Rattle.fills.proofs.Passing.{open-fits, open-left, open-passed}
 use Rattle.fills.proofs.lane.pass_brace.Statement.{statement}
 use Rattle.fills.proofs.lane.pass_brace.Tie as tie
@@ -43,7 +44,7 @@ returns-2 c =
     let a = c .before .before .before .before .before .before .before .before .before .before .before .args in
     let room = open-fits (now (a .text)) (a .frame) (a .mode) (a .state) (a .n) (now (a .pieces)) (s .4) (s .3) (λ e. c .before .before .before .before .before .before .before .if1 .left (c .before .before .before .before .before .before .before .before .byte .ensures ∙ e)) (s .2) in
     let put = c .before .before .before .before .before .write .ensures in
-    open-left (now (a .text)) (a .frame) (a .mode) (a .state) (a .n) (now (a .pieces)) (s .4) (s .3) (λ e. c .before .before .before .before .before .before .before .if1 .left (c .before .before .before .before .before .before .before .before .byte .ensures ∙ e)) room (put .0) (put .2) (c .stay .ensures)
+    open-left (now (a .text)) (a .frame) (a .mode) (a .state) (a .n) (now (a .pieces)) (s .4) (s .3) (λ e. c .before .before .before .before .before .before .before .if1 .left (c .before .before .before .before .before .before .before .before .byte .ensures ∙ e)) room (put .0) (put .2) (not-on (c .stay .ensures))
 
 speaks-requires : tie.Need-speaks-requires
 speaks-requires c κs = search needs
@@ -60,7 +61,7 @@ returns-3 c =
     let a = c .before .before .before .before .before .before .before .before .before .before .before .before .before .args in
     let put = c .before .before .before .before .before .before .before .write .ensures in
     open-left (now (a .text)) (a .frame) (a .mode) (a .state) (a .n) (now (a .pieces)) (s .4) (s .3) (λ e. c .before .before .before .before .before .before .before .before .before .if1 .left (c .before .before .before .before .before .before .before .before .before .before .byte .ensures ∙ e))
-    (open-fits (now (a .text)) (a .frame) (a .mode) (a .state) (a .n) (now (a .pieces)) (s .4) (s .3) (λ e. c .before .before .before .before .before .before .before .before .before .if1 .left (c .before .before .before .before .before .before .before .before .before .before .byte .ensures ∙ e)) (s .2)) (put .0) (put .2) (c .stay2 .ensures)
+    (open-fits (now (a .text)) (a .frame) (a .mode) (a .state) (a .n) (now (a .pieces)) (s .4) (s .3) (λ e. c .before .before .before .before .before .before .before .before .before .if1 .left (c .before .before .before .before .before .before .before .before .before .before .byte .ensures ∙ e)) (s .2)) (put .0) (put .2) (not-on (c .stay2 .ensures))
 
 after-told-requires : tie.Need-after-told-requires
 after-told-requires c κs = search needs

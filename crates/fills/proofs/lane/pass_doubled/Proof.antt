@@ -7,7 +7,7 @@ use denote.Ref.{now}
 use Rattle.frame.specs.Places.{place, rangeOf}
 use Rattle.frame.specs.declared.TextPlace.{TextPlace}
 use Rattle.reading.specs.declared.Step.{Step}
-use Rattle.fills.proofs.Stepping.{doubled-within, step-doubled}
+use Rattle.passing.proofs.Stepping.{doubled-within, step-doubled}
 use Rattle.fills.proofs.lane.pass_doubled.Statement.{statement}
 use Rattle.fills.proofs.lane.pass_doubled.Tie as tie
 

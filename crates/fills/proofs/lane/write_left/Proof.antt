@@ -1,16 +1,16 @@
--- `fills::lane::write_left` meets its contract: a placeholder is told or tried; anything else is the plain step.
+-- `fills::lane::write_left` meets its contract: a placeholder of Format mode is told where it can be; anything else is the plain step.
 use borrow.Author.Needs.{needs}
 use Rattle.fills.proofs.lane.write_left.Statement.{statement}
 use Rattle.fills.proofs.lane.write_left.Tie as tie
 
-is-open-requires : tie.Need-is-open-requires
-is-open-requires c κs = search needs
+opens-requires : tie.Need-opens-requires
+opens-requires c κs = search needs
 
 write-open-requires : tie.Need-write-open-requires
 write-open-requires c κs =
     let p = c .before .before .before .before .before .before .before .pre in
-    let o = c .before .before .before .is-open .ensures (c .before .before .if1 .taken) in
-    (p .0, p .1, rw (o .mode) at (p .2), p .3, rw (o .mode) at o)
+    let o = c .before .before .before .opens .ensures (c .before .before .if1 .taken) in
+    (p .0, p .1, rw (o .0) at (p .2), o .1)
 
 same-length : tie.Need-same-length
 same-length c = search needs
@@ -19,7 +19,7 @@ same-length-2 : tie.Need-same-length-2
 same-length-2 c = search needs
 
 returns : tie.Need-returns
-returns c = rw (c .before .before .before .before .before .before .before .before .is-open .ensures (c .before .before .before .before .before .before .before .if1 .taken) .mode) (c .before .before .before .before .write-open .ensures)
+returns c = rw (c .before .before .before .before .before .before .before .before .opens .ensures (c .before .before .before .before .before .before .before .if1 .taken) .0) (c .before .before .before .before .write-open .ensures)
 
 whole-requires : tie.Need-whole-requires
 whole-requires c κs = search needs
@@ -51,7 +51,7 @@ pub write-left-spec : {M : Type 1} → statement M
 write-left-spec =
     tie.close
     (tie.spec
-    is-open-requires
+    opens-requires
     write-open-requires
     same-length
     same-length-2

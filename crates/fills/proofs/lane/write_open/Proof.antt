@@ -1,10 +1,10 @@
 -- `fills::lane::write_open` meets its contract: what is told is written and needs its records, and anything else is the plain step.
 use borrow.Author.Needs.{needs}
-use borrow.Author.Tests.{not-false}
+use borrow.Author.Tests.{not-true, not-false}
 use mathlib.Core.Path.{_∙_}
 use native.Mathlib.Omega.{arith}
 use denote.Ref.{now}
-use Rattle.fills.proofs.Stopping.{left-over, one-fits, open-tried, room-again, told-here, open-told}
+use Rattle.fills.proofs.Stopping.{one-fits, told-here, open-told}
 use Rattle.fills.proofs.lane.write_open.Statement.{statement}
 use Rattle.fills.proofs.lane.write_open.Tie as tie
 
@@ -12,7 +12,7 @@ write-placeholder-requires : tie.Need-write-placeholder-requires
 write-placeholder-requires c κs =
     let p = c .before .before .before .before .pre in
     let a = c .before .before .before .before .args in
-    (p .0, p .3, p .1, one-fits (now (a .text)) (a .frame) (a .state) (p .3) (p .4) (p .2))
+    (p .0, p .3 .within, p .1, one-fits (now (a .text)) (a .frame) (a .state) (p .3) (p .2))
 
 whole-requires : tie.Need-whole-requires
 whole-requires c κs = search needs
@@ -29,7 +29,8 @@ own-extent-requires c κs = search needs
 write-step-requires : tie.Need-write-step-requires
 write-step-requires c κs =
     let p = c .before .before .before .before .before .before .before .before .before .before .before .before .before .before .before .pre in
-    rw (c .before .before .before .before .before .whole .ensures, c .before .before .before .before .own-frame .ensures, c .before .before .before .own-state .ensures, c .own-extent .ensures) (p .0, p .1, room-again (p .2) (c .before .before .before .before .before .before .before .before .before .pieces .given))
+    let untold = c .before .before .before .before .before .before .before .before .before .before .write-placeholder .ensures .1 .left (not-true _ (c .before .before .before .before .before .before .if1 .taken)) in
+    rw (c .before .before .before .before .before .whole .ensures, c .before .before .before .before .own-frame .ensures, c .before .before .before .own-state .ensures, c .own-extent .ensures, untold) (p .0, p .1, p .2)
 
 same-length : tie.Need-same-length
 same-length c = c .before .before .before .pieces2 .given ∙ c .before .before .before .before .before .before .before .before .before .before .before .before .before .before .pieces .given
@@ -39,10 +40,8 @@ same-length-2 c = search needs
 
 returns : tie.Need-returns
 returns c =
-    let p = c .before .before .before .before .before .before .before .before .before .before .before .before .before .before .before .before .before .before .before .before .pre in
-    let a = c .before .before .before .before .before .before .before .before .before .before .before .before .before .before .before .before .before .before .before .before .args in
-    let w = c .before .before .before .before .before .before .before .before .before .before .before .before .before .before .before .write-placeholder .ensures in
-    left-over (now (a .text)) (a .frame) _ (a .state) (open-tried (now (a .text)) (a .frame) (a .state) (p .3) (p .4) (p .2) (w .0) (w .1)) (rw (c .before .before .before .before .before .before .before .before .before .before .whole .ensures, c .before .before .before .before .before .before .before .before .before .own-frame .ensures, c .before .before .before .before .before .before .before .before .own-state .ensures, c .before .before .before .before .before .own-extent .ensures) at (c .before .before .before .before .write-step .ensures))
+    let untold = c .before .before .before .before .before .before .before .before .before .before .before .before .before .before .before .write-placeholder .ensures .1 .left (not-true _ (c .before .before .before .before .before .before .before .before .before .before .before .if1 .taken)) in
+    rw (c .before .before .before .before .before .before .before .before .before .before .whole .ensures, c .before .before .before .before .before .before .before .before .before .own-frame .ensures, c .before .before .before .before .before .before .before .before .own-state .ensures, c .before .before .before .before .before .own-extent .ensures, untold) at (c .before .before .before .before .write-step .ensures)
 
 after-told-requires : tie.Need-after-told-requires
 after-told-requires c κs = search needs
@@ -54,16 +53,16 @@ put-wrongs-requires c κs =
     let w = c .before .before .before .before .before .before .before .write-placeholder .ensures in
     let y = not-false _ (c .before .before .before .if1 .left) in (
       p .0,
-      omega (arith, p .0 .text, p .3),
+      omega (arith, p .0 .text, p .3 .within),
       omega (arith, p .0 .text, w .0 .reached y),
-      told-here (now (a .text)) (a .frame) (a .state) (p .3) (p .4) (p .2) (w .0) (w .1) y,
+      told-here (now (a .text)) (a .frame) (a .state) (p .3) (p .2) (w .0) (w .1) y,
     )
 
 one-more-requires : tie.Need-one-more-requires
 one-more-requires c κs =
     let p = c .before .before .before .before .before .before .before .before .before .before .before .before .before .before .before .pre in
     let a = c .before .before .before .before .before .before .before .before .before .before .before .before .before .before .before .args in
-    omega (arith, one-fits (now (a .text)) (a .frame) (a .state) (p .3) (p .4) (p .2), c .before .before .put-wrongs .ensures .pieces, c .before .before .before .before .before .before .before .before .before .before .before .before .before .before .before .good)
+    omega (arith, one-fits (now (a .text)) (a .frame) (a .state) (p .3) (p .2), c .before .before .put-wrongs .ensures .pieces, c .before .before .before .before .before .before .before .before .before .before .before .before .before .before .before .good)
 
 same-length-3 : tie.Need-same-length-3
 same-length-3 c = search needs
@@ -77,7 +76,7 @@ returns-2 c =
     let a = c .before .before .before .before .before .before .before .before .before .before .before .before .before .before .before .before .args in
     let w = c .before .before .before .before .before .before .before .before .before .before .before .write-placeholder .ensures in
     let y = not-false _ (c .before .before .before .before .before .before .before .if1 .left) in
-    open-told (now (a .text)) (a .frame) (a .state) (p .3) (p .4) (p .2) (w .0) (w .1) y (c .before .before .before .before .before .after-told .ensures) (c .before .before .before .put-wrongs .ensures) (c .one-more .ensures)
+    open-told (now (a .text)) (a .frame) (a .state) (p .3) (p .2) (w .0) (w .1) y (c .before .before .before .before .before .after-told .ensures) (c .before .before .before .put-wrongs .ensures) (c .one-more .ensures)
 
 pub write-open-spec : {M : Type 1} → statement M
 write-open-spec =

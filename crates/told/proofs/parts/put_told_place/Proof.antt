@@ -1,6 +1,6 @@
 -- `told::parts::put_told_place` meets its contract: four numbers, by the place's tag.
 use borrow.Author.Needs.{needs}
-use Rattle.told.proofs.Telling.{place-next, place-number, place-word}
+use Rattle.passing.proofs.Afters.{place-next, place-number, place-word}
 use Rattle.told.proofs.parts.put_told_place.Statement.{statement}
 use Rattle.told.proofs.parts.put_told_place.Tie as tie
 

@@ -1,121 +1,107 @@
--- `told::whole::write_placeholder` meets its contract: the place, whitespace, and then a colon with its spec or the end.
+-- `told::whole::write_placeholder` meets its contract: what is told is written, without a colon in one go, with one the spec first and then the head.
 use borrow.Author.Needs.{needs}
-use borrow.Author.Tests.{not-true, not-false, eqb-true}
+use borrow.Author.Tests.{not-true, not-false}
 use native.Mathlib.Omega.{arith}
-use mathlib.Core.Path.{refl, sym, _∙_}
-use mathlib.Core.Logic.{⊎-elim}
+use mathlib.Core.Path.{_≡_, refl, sym, _∙_}
 use denote.Ref.{now}
-use Prim.Native.Nat.{_*_}
-use Rattle.quick.proofs.Bytes.{room-spaces}
-use Rattle.quick.proofs.Endings.{brace-silent}
-use Rattle.quick.proofs.Wholes.{place-ends, tells, ending, sound-bare}
-use Rattle.told.proofs.Telling.{bare-untold, bare-told, star-none, told-sound}
+use Prim.Native.Nat.{_+_, _*_, _≤_}
+use mathlib.Core.Bool.{true, true≢false}
+use lib.ListN.{length}
+use Rattle.quick.specs.Tellings.{specOf}
+use Rattle.words.specs.LaidLaws.{specWords-length}
+use Rattle.words.specs.Layout.{specWords}
+use Rattle.told.proofs.Telling.{put-told, bare-told, spec-told, told-sound}
+use Rattle.told.proofs.Spoiling.{put-laid}
 use Rattle.told.proofs.whole.write_placeholder.Statement.{statement}
 use Rattle.told.proofs.whole.write_placeholder.Tie as tie
 
-add-place : tie.Need-add-place
-add-place c = search needs
+add-tell : tie.Need-add-tell
+add-tell c = search needs
 
-place-requires : tie.Need-place-requires
-place-requires c κs = search needs
+tell-requires : tie.Need-tell-requires
+tell-requires c κs = search needs
 
-space-end-requires : tie.Need-space-end-requires
-space-end-requires c κs = search needs
+returns : tie.Need-returns
+returns c = (c .before .before .tell .ensures, record { wrote = λ y. absurd (true≢false (sym y ∙ not-true _ (c .if1 .taken))); left = λ _. refl })
 
-byte-requires : tie.Need-byte-requires
-byte-requires c κs = search needs
-
-write-with-spec-requires : tie.Need-write-with-spec-requires
-write-with-spec-requires c κs =
-    let s = c .before .before .before .before .before .before .before in (
-      s .pre .0,
-      room-spaces (s .pre .0 .text) (c .before .before .before .before .place .ensures .inside) (c .before .before .before .space-end .ensures),
-      sym (c .before .before .byte .ensures) ∙ c .before .if1 .taken,
-      place-ends (c .before .before .before .before .place .ensures) (c .before .before .before .space-end .ensures),
-      omega (arith, s .pre .0 .text, s .pre .1),
-      s .pre .2,
-      s .pre .3,
-    )
+put-bare-requires : tie.Need-put-bare-requires
+put-bare-requires c κs =
+    let s = c .before .before .before .before .before .before .before .before .before .before in
+    (s .pre .0, told-sound _ _ _ (c .before .before .before .before .before .before .before .tell .ensures) (not-false _ (c .before .before .before .before .before .if1 .left)), omega (arith, s .pre .0 .text, s .pre .1), s .pre .3)
 
 same-length : tie.Need-same-length
 same-length c = search needs
 
-returns : tie.Need-returns
-returns c = search needs
-
-whole-requires : tie.Need-whole-requires
-whole-requires c κs = search needs
-
-hint-at-requires : tie.Need-hint-at-requires
-hint-at-requires c κs = rw (c .whole .ensures) (room-spaces (c .before .before .before .before .before .before .before .before .pre .0 .text) (c .before .before .before .before .before .place .ensures .inside) (c .before .before .before .before .space-end .ensures))
-
-is-told-requires : tie.Need-is-told-requires
-is-told-requires c κs = search needs
-
-no-spec-requires : tie.Need-no-spec-requires
-no-spec-requires c κs = search needs
-
-onward-requires : tie.Need-onward-requires
-onward-requires c κs =
-    let r = room-spaces (c .before .before .before .before .before .before .before .before .before .pre .0 .text) (c .before .before .before .before .before .before .place .ensures .inside) (c .before .before .before .before .before .space-end .ensures) in
-    omega (arith, r .within, r .small)
-
 returns-2 : tie.Need-returns-2
 returns-2 c =
-    let s = c .before .before .before .before .before .before .before .before .before .before .before .before in
+    let s = c .before .before .before .before .before .before .before .before .before .before .before .before .before in
     let a = s .args in
-    let e = place-ends (c .before .before .before .before .before .before .before .before .before .place .ensures) (c .before .before .before .before .before .before .before .before .space-end .ensures) in (
-      tells e
-          (λ y.
-          sound-bare (λ q. c .before .before .before .before .before .before .if1 .left (c .before .before .before .before .before .before .before .byte .ensures ∙ q)) (c .before .before .before .no-spec .ensures) e
-          (ending (c .before .before .before .before .before .before .before .byte .ensures) (c .before .before .before .before .is-told .ensures y) (⊎-elim (λ w. w .1 ∙ brace-silent _ _ (sym (c .before .before .before .before .before .before .before .byte .ensures) ∙ eqb-true _ _ (w .0 .taken))) (λ w. w .3 ∙ rw (w .1 .ensures) at (w .2 .ensures)) (c .before .before .before .before .before .if2 .came)) (c .before .before .onward .ensures))),
-      bare-untold (now (a .text)) (a .frame) (a .brace) _ (a .next) (now (a .out)) (40 * a .n) (s .pre .3) (not-true _ (c .if3 .taken)),
+    let y = not-false (c .before .before .before .before .before .before .before .before .before .before .tell .result .ok) (c .before .before .before .before .before .before .before .before .if1 .left) in (
+      c .before .before .before .before .before .before .before .before .before .before .tell .ensures,
+      put-told y
+          (bare-told (now (a .text)) (a .frame) (a .brace) _ (a .next) (now (a .out)) (40 * a .n) (s .pre .3) (not-true _ (c .before .before .before .before .if2 .taken))
+          (rw (c .before .before .before .before .before .before .after-star .ensures) at (c .before .before .put-bare .ensures)) .wrote y),
     )
 
-put-bare-requires : tie.Need-put-bare-requires
-put-bare-requires c κs =
-    let s = c .before .before .before .before .before .before .before .before .before .before .before .before .before in
-    let e = place-ends (c .before .before .before .before .before .before .before .before .before .before .place .ensures) (c .before .before .before .before .before .before .before .before .before .space-end .ensures) in
-    let told = tells e
-    (λ y.
-    sound-bare (λ q. c .before .before .before .before .before .before .before .if1 .left (c .before .before .before .before .before .before .before .before .byte .ensures ∙ q)) (c .before .before .before .before .no-spec .ensures) e
-    (ending (c .before .before .before .before .before .before .before .before .byte .ensures) (c .before .before .before .before .before .is-told .ensures y) (⊎-elim (λ w. w .1 ∙ brace-silent _ _ (sym (c .before .before .before .before .before .before .before .before .byte .ensures) ∙ eqb-true _ _ (w .0 .taken))) (λ w. w .3 ∙ rw (w .1 .ensures) at (w .2 .ensures)) (c .before .before .before .before .before .before .if2 .came)) (c .before .before .before .onward .ensures)))
-    in
-    (s .pre .0, told-sound _ _ _ told (not-false _ (c .before .if3 .left)), omega (arith, s .pre .0 .text, s .pre .1), s .pre .3)
+mul-k : tie.Need-mul-k
+mul-k c = search needs
+
+add-put-spec : tie.Need-add-put-spec
+add-put-spec c = search needs
+
+add-put-spec-2 : tie.Need-add-put-spec-2
+add-put-spec-2 c = omega (arith, c .before .before .before .before .before .before .before .before .tell .ensures .reached (not-false _ (c .before .before .before .before .before .before .if1 .left)), c .before .before .before .before .before .before .before .before .before .before .before .pre .0 .text)
+
+put-spec-requires : tie.Need-put-spec-requires
+put-spec-requires c κs =
+    let s = c .before .before .before .before .before .before .before .before .before .before .before in
+    let told = c .before .before .before .before .before .before .before .before .tell .ensures in
+    let y = not-false (c .before .before .before .before .before .before .before .before .tell .result .ok) (c .before .before .before .before .before .before .if1 .left) in
+    (s .pre .0, omega (arith, s .pre .3), told .wide y, told .precise y, omega (arith, told .counted y, s .pre .0 .text))
+
+after-star-requires : tie.Need-after-star-requires
+after-star-requires c κs = search needs
+
+put-told-head-requires : tie.Need-put-told-head-requires
+put-told-head-requires c κs =
+    let s = c .before .before .before .before .before .before .before .before .before .before .before .before .before .before .before in
+    (s .pre .0, told-sound _ _ _ (c .before .before .before .before .before .before .before .before .before .before .before .before .tell .ensures) (not-false _ (c .before .before .before .before .before .before .before .before .before .before .if1 .left)), omega (arith, s .pre .0 .text, s .pre .1), omega (arith, s .pre .3, c .before .before .out2 .given))
 
 same-length-2 : tie.Need-same-length-2
 same-length-2 c = search needs
 
 returns-3 : tie.Need-returns-3
 returns-3 c =
-    let s = c .before .before .before .before .before .before .before .before .before .before .before .before .before .before .before .before in
+    let s = c .before .before .before .before .before .before .before .before .before .before .before .before .before .before .before .before .before .before in
     let a = s .args in
-    let e = place-ends (c .before .before .before .before .before .before .before .before .before .before .before .before .before .place .ensures) (c .before .before .before .before .before .before .before .before .before .before .before .before .space-end .ensures) in (
-      tells e
-          (λ y.
-          sound-bare (λ q. c .before .before .before .before .before .before .before .before .before .before .if1 .left (c .before .before .before .before .before .before .before .before .before .before .before .byte .ensures ∙ q)) (c .before .before .before .before .before .before .before .no-spec .ensures) e
-          (ending (c .before .before .before .before .before .before .before .before .before .before .before .byte .ensures) (c .before .before .before .before .before .before .before .before .is-told .ensures y) (⊎-elim (λ w. w .1 ∙ brace-silent _ _ (sym (c .before .before .before .before .before .before .before .before .before .before .before .byte .ensures) ∙ eqb-true _ _ (w .0 .taken))) (λ w. w .3 ∙ rw (w .1 .ensures) at (w .2 .ensures)) (c .before .before .before .before .before .before .before .before .before .if2 .came)) (c .before .before .before .before .before .before .onward .ensures))),
-      bare-told (now (a .text)) (a .frame) (a .brace) _ (a .next) (now (a .out)) (40 * a .n) (s .pre .3) refl
-          (rw (star-none (a .next) (c .before .before .before .before .before .before .before .no-spec .ensures .precise)) (c .before .before .put-bare .ensures)),
+    let x = c .before .before .before .before .before .before .before .before .before .before .before .before .before .before .before .tell .result in
+    let y = not-false (x .ok) (c .before .before .before .before .before .before .before .before .before .before .before .before .before .if1 .left) in
+    let spec = specOf (now (a .text)) (a .frame) (x .to + 1) (a .next) (x .spec) in
+    let e = specWords-length spec in
+    let room : 40 * a .n + 8 + length (specWords spec) ≤ length (now (a .out)) = omega (arith, e, s .pre .3) in (
+      c .before .before .before .before .before .before .before .before .before .before .before .before .before .before .before .tell .ensures,
+      put-told y
+          (spec-told (now (a .text)) (a .frame) (a .brace) x (a .next) (now (a .out)) (40 * a .n) (s .pre .3) (not-false _ (c .before .before .before .before .before .before .before .before .before .if2 .left))
+          (put-laid (now (a .out)) (40 * a .n + 8) (specWords spec) room (c .before .before .before .before .before .before .put-spec .ensures) e {told = x .ok ≡ true})
+          y
+          (rw (c .before .before .before .before .before .before .before .before .before .before .before .after-star .ensures) at (c .before .before .put-told-head .ensures)) .wrote y),
     )
 
 pub write-placeholder-spec : {M : Type 1} → statement M
 write-placeholder-spec =
     tie.close
     (tie.spec
-    add-place
-    place-requires
-    space-end-requires
-    byte-requires
-    write-with-spec-requires
-    same-length
+    add-tell
+    tell-requires
     returns
-    whole-requires
-    hint-at-requires
-    is-told-requires
-    no-spec-requires
-    onward-requires
-    returns-2
+    after-star-requires
     put-bare-requires
+    same-length
+    returns-2
+    mul-k
+    add-put-spec
+    add-put-spec-2
+    put-spec-requires
+    put-told-head-requires
     same-length-2
     returns-3)

@@ -1,0 +1,2 @@
+-- Laws that the proofs of `literal` share.
+pub mod Literals

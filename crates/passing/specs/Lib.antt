@@ -1,0 +1,3 @@
+-- What the functions of `passing` promise.
+pub mod After
+pub mod Clear

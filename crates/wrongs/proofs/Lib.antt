@@ -1,0 +1,2 @@
+-- Laws that the proofs of `wrongs` share.
+pub mod ToldWrong

@@ -1,0 +1,2 @@
+-- What is told to be wrong.
+pub mod Wrongs
