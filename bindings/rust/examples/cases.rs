@@ -120,6 +120,22 @@ fn read_in_parts(text: &[u8], lengths: &[usize], request: Request<'_>, lists: &m
     raw::finish(&state, &buffer, request, lists)
 }
 
+/// A count of the same call says what was read, and lists made to measure by it, which take a counting run first, hold the same.
+fn check_counted(text: &[u8], request: Request<'_>, answer: &raw::Answer, store: &Store) {
+    let rooms = |answer: &raw::Answer| [answer.pieces, answer.errors, answer.places, answer.lines];
+    let counted = raw::count(text, request);
+    assert_eq!(rooms(&counted), rooms(answer), "the count of {text:?}");
+    assert_eq!((counted.arguments, counted.moves), (answer.arguments, answer.moves), "the figures of {text:?}");
+    let mut tight = Store::new(rooms(answer));
+    let mut lists = Lists { pieces: &mut tight.pieces, errors: &mut tight.errors, places: &mut tight.places, lines: &mut tight.lines };
+    let again = raw::read(text, request, &mut lists);
+    assert_eq!((again.number, rooms(&again)), (0, rooms(answer)), "{text:?} with no room to spare");
+    assert_eq!(tight.pieces, store.pieces[..tight.pieces.len()], "the pieces of {text:?}");
+    assert_eq!(tight.errors, store.errors[..tight.errors.len()], "the errors of {text:?}");
+    assert_eq!(tight.places, store.places[..tight.places.len()], "the argument places of {text:?}");
+    assert_eq!(tight.lines, store.lines[..tight.lines.len()], "the lines of {text:?}");
+}
+
 fn case(out: &mut impl Write, k: usize, head: &[u8], snippet: &[u8], text: &[u8], cut: Option<&[usize]>) -> io::Result<()> {
     let request = Request {
         mode: head[0],
@@ -142,6 +158,7 @@ fn case(out: &mut impl Write, k: usize, head: &[u8], snippet: &[u8], text: &[u8]
     if answer.number != 0 {
         return if store.is_zero() { Ok(()) } else { writeln!(out, "changed") };
     }
+    check_counted(text, request, &answer, &store);
     for words in store.pieces.chunks_exact(PIECE).take(answer.pieces) {
         piece(out, words)?;
     }
