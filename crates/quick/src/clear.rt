@@ -1,11 +1,10 @@
-// A placeholder that ends at its closing brace, told by its parts, for runs that write nothing. Its place, its precision and its spec are read here, though `place`, `precision` and `whole`
-// read them, too: what is called from two places becomes a call in the lane's loop, or where the lane stops (docs/SPEED.md, 'The rule for hot paths').
+// A placeholder that ends at its closing brace, told by its parts, for runs that write nothing. Its place and its spec are read here, though `place` and `whole` read them, too: called from two
+// places they become calls where the lane stops (docs/SPEED.md, 'The rule for hot paths').
 use crate::PartTold;
 use crate::PlaceholderTold;
 use crate::SignHint;
 use crate::SpecTold;
 use crate::all_told;
-use crate::count;
 use crate::fill_end;
 use crate::given_back;
 use crate::is_blank;
@@ -15,6 +14,7 @@ use crate::no_spec;
 use crate::nothing;
 use crate::number;
 use crate::plain;
+use crate::precision;
 use crate::space_end;
 use crate::type_at;
 use crate::untold;
@@ -27,7 +27,7 @@ ghost use mathlib.Core.Bool.{true, false};
 ghost use Prim.Native.Nat.{_+_};
 ghost use lib.ListN.{getD};
 ghost use Rattle.quick.specs.Tellings.{Tells};
-ghost use Rattle.quick.specs.PartsTold.{Room, PlaceTold, PrecisionTold, SpecKnown, NoSpec, LeftTold};
+ghost use Rattle.quick.specs.PartsTold.{Room, PlaceTold, SpecKnown, NoSpec, LeftTold};
 
 // The place of an argument: a number, a word that is neither `_` nor begins a raw name, or nothing.
 fn clear_place(text: &[u8], at: usize) -> PartTold
@@ -51,24 +51,6 @@ fn clear_place(text: &[u8], at: usize) -> PartTold
     plain(2, 0, end)
 }
 
-// The precision with its dot: a star, or a number with `$` or without.
-fn clear_precision(text: &[u8], at: usize) -> PartTold
-    requires { ⌜ Room (now text) at ⌝ }
-    ensures { λ r. ⌜ PrecisionTold (now (text .entry)) at 0 r ⌝ }
-{
-    if utf8::byte(text, at) != b'.' {
-        return nothing(at);
-    }
-    let b = utf8::byte(text, at + 1);
-    if b == b'*' {
-        return plain(3, 0, at + 2);
-    }
-    if is_digit(b) {
-        return count(text, at + 1);
-    }
-    untold(at)
-}
-
 // The spec from after its colon.
 fn clear_spec(text: &[u8], at: usize) -> SpecTold
     requires { ⌜ Room (now text) at ⌝ }
@@ -84,10 +66,10 @@ fn clear_spec(text: &[u8], at: usize) -> SpecTold
     let from = flag.at.0;
     let word = word_at(text, from);
     let wide = width(text, from, word.end);
-    let precision = clear_precision(text, wide.end);
-    let typed = type_at(text, precision.end, from, word.end);
+    let precise = precision(text, wide.end);
+    let typed = type_at(text, precise.end, from, word.end);
     SpecTold {
-        ok: all_told(text, flag.ate, from, wide, precision, typed),
+        ok: all_told(text, flag.ate, from, wide, precise, typed),
         fill,
         align,
         sign,
@@ -96,7 +78,7 @@ fn clear_spec(text: &[u8], at: usize) -> SpecTold
         from,
         word: word.end,
         width: wide,
-        precision,
+        precision: precise,
         typed,
         given: given_back(text, from, word, wide),
     }

@@ -27,11 +27,11 @@ word-at-requires c κs = marks-room (marks (c .before .before .before .read-alig
 width-requires : tie.Need-width-requires
 width-requires c κs = (marks-room (marks (c .before .before .before .before .read-align .ensures) (c .before .before .before .read-sign .ensures) (c .before .before .consume .ensures) (c .before .consume2 .ensures)) (c .before .before .before .before .before .before .before .pre) (c .before .before .before .before .before .fill-end .ensures), c .word-at .ensures .ends)
 
-clear-precision-requires : tie.Need-clear-precision-requires
-clear-precision-requires c κs = search needs
+precision-requires : tie.Need-precision-requires
+precision-requires c κs = search needs
 
 type-at-requires : tie.Need-type-at-requires
-type-at-requires c κs = (record { within = c .clear-precision .ensures .inside; small = c .before .before .before .before .before .before .before .before .before .pre .small }, c .before .before .word-at .ensures .ends)
+type-at-requires c κs = (record { within = c .precision .ensures .inside; small = c .before .before .before .before .before .before .before .before .before .pre .small }, c .before .before .word-at .ensures .ends)
 
 all-told-requires : tie.Need-all-told-requires
 all-told-requires c κs = search needs
@@ -45,7 +45,7 @@ returns c =
     (c .before .before .before .before .before .before .before .before .before .before .fill-end .ensures)
     (c .before .before .before .before .width .ensures)
     (c .given-back .ensures)
-    (c .before .before .before .clear-precision .ensures)
+    (c .before .before .before .precision .ensures)
     (sym (add-zero _))
     (c .before .before .type-at .ensures)
     (c .before .all-told .ensures)
@@ -61,7 +61,7 @@ clear-spec-spec =
     consume-requires-2
     word-at-requires
     width-requires
-    clear-precision-requires
+    precision-requires
     type-at-requires
     all-told-requires
     given-back-requires
