@@ -1,6 +1,8 @@
 // Whether the texts of two files say the same: `the same`, or `differ at piece N: A and B`, with the first piece that is not the same in both, as the plain forms have it.
 // The files are the first two arguments; the third is the mode, `format`, which it is without one, `asm` or `diagnostic`. Where a text has no plain form, standard error says
 // why, and standard output stays empty.
+#![tactic(auto)]
+
 ghost use Rattle.frame.specs.Bounds.{Small};
 ghost use Rattle.io.specs.Counts.{IsPrefixLen};
 
@@ -11,7 +13,7 @@ use reading::{Hashes, Piece, Request};
 use turns::PieceTurn;
 
 // What is compared of a turn: whether it has a piece, of which sort, and its bytes.
-#[derive(Drop)]
+#[derive(Clone, Copy)]
 struct PieceSeen {
     more: bool,
     literal: bool,
@@ -19,7 +21,7 @@ struct PieceSeen {
 }
 
 // What two runs over pieces have where they part, and how many pieces they had before.
-#[derive(Drop)]
+#[derive(Clone, Copy)]
 struct Apart {
     piece: usize,
     one: PieceSeen,
@@ -27,7 +29,7 @@ struct Apart {
 }
 
 // A file that was read, or could not be.
-#[derive(Drop)]
+#[derive(Clone, Copy)]
 struct Taken {
     there: bool,
     length: usize,

@@ -1,4 +1,6 @@
 // The public calls for programs in other languages on a text that arrives in parts, the state as three numbers. include/nitarehpu.h says the same in C's words.
+#![tactic(auto)]
+
 ghost use Rattle.std.specs.Prelude.{◌≡◌, ◌≤◌, length};
 ghost use Rattle.utf8.specs.Choice.{pick};
 ghost use Rattle.reading.specs.Written.{over};

@@ -1,5 +1,7 @@
 // One Format text, no style and no snippet, from standard input to its short listing on standard output: each list after its count.
 // Each list counts as one of 256 records; a refusal writes only its number and its place.
+#![tactic(auto)]
+
 use libc::STDIN_FILENO;
 use reading::{Hashes, Request, Rooms};
 

@@ -1,5 +1,7 @@
 // A stream of cases on standard input to the full listing on standard output: each case's answer, and every record of its lists.
 // A case is a head of 20 bytes, a snippet and a text. Numbers stand low byte first, and a mark other than 1 is none.
+#![tactic(auto)]
+
 ghost use Rattle.std.specs.Prelude.{◌≤◌};
 ghost use Rattle.io.specs.Counts.{IsPrefixLen};
 
@@ -10,7 +12,7 @@ use reading::{Hashes, Request, Rooms};
 const MOST: usize = 0xFFFFFFFFFFFF;
 
 // How much of the buffer is used, and whether the stream goes on.
-#[derive(Drop)]
+#[derive(Clone, Copy)]
 struct Turn {
     used: usize,
     more: bool,

@@ -12,14 +12,14 @@ use scan::{Count, Flaw};
 
 // A closing brace is missing before the character at a place, or at the end; then the character that says why: the fill if it is `}`, else the
 // opening brace.
-#[derive(Drop)]
+#[derive(Clone, Copy)]
 pub enum Gap {
     Before(TextPlace, TextPlace),
     AtEnd(TextPlace),
 }
 
 // What is said of what stands where a closing brace is missing.
-#[derive(Drop)]
+#[derive(Clone, Copy)]
 pub enum Hint {
     Silent,
     // 8: a `?` before `:`, and the word after them.
@@ -41,7 +41,7 @@ pub enum Hint {
 }
 
 // Where reading stands afterwards, the next argument's number, what was found wrong, and literal text that was passed.
-#[derive(Drop)]
+#[derive(Clone, Copy)]
 pub struct Recovery {
     pub at: TextPlace,
     pub next: usize,

@@ -9,13 +9,13 @@ use placeholder::between::ArgumentRead;
 use placeholder::{Argument, ArgumentFlaws};
 
 // How a placeholder ends: at its closing brace, which stands at a place, or without one.
-#[derive(Drop)]
+#[derive(Clone, Copy)]
 pub enum Closing {
     Closed(TextPlace),
     Missing(Gap, Recovery),
 }
 
-#[derive(Drop)]
+#[derive(Clone, Copy)]
 pub struct PlaceholderRead {
     pub argument: Argument,
     // The literal text that was passed, in Diagnostic mode the type.

@@ -1,4 +1,6 @@
 // What the programs at a clerk's desk share: a mode by its word, where two lists of bytes part, and why a text has no plain form, in words.
+#![tactic(auto)]
+
 ghost use Rattle.std.specs.Prelude.{◌≡◌};
 ghost use Rattle.frame.specs.Bounds.{Small};
 ghost use Rattle.frame.specs.Frames.{same};

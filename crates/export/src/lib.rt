@@ -1,4 +1,6 @@
 // The public call for programs in other languages, on numbers and lent lists of numbers. include/nitarehpu.h says the same in C's words.
+#![tactic(auto)]
+
 ghost use Rattle.std.specs.Prelude.{◌≡◌, true, ◌≤◌, length};
 ghost use Rattle.frame.specs.Bounds.{Small};
 ghost use Rattle.utf8.specs.Chars.{chars_from};

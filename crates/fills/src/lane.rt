@@ -21,7 +21,7 @@ use writing::{Extent, StepWritten, one_more, write_step};
 use wrongs::put_wrongs;
 
 // Where the lane stopped, how many pieces are written before it, and how many characters were given back on the way.
-#[derive(Drop)]
+#[derive(Clone, Copy)]
 pub struct Stopped {
     pub state: State,
     pub pieces: usize,

@@ -11,7 +11,7 @@ use reading::State;
 use writing::Extent;
 
 // How many pieces and error records a text has, how many arguments the pieces want, how many characters were given back, and where reading stopped.
-#[derive(Drop)]
+#[derive(Clone, Copy)]
 pub struct Filled {
     pub pieces: usize,
     pub errors: usize,
@@ -21,7 +21,7 @@ pub struct Filled {
 }
 
 // What a run wrote, and the same figures.
-#[derive(Drop)]
+#[derive(Clone, Copy)]
 pub struct Written {
     pub extent: Extent,
     pub arguments: usize,

@@ -1,4 +1,6 @@
 // The finish of a text that arrived in parts: it is read into lists that the caller lends.
+#![tactic(auto)]
+
 ghost use Rattle.uploads.specs.Finishes.{Finished};
 
 use reader::call::read_by;

@@ -1,6 +1,8 @@
 // A placeholder of Format mode in which nothing is wrong, told and written, a short spec as a whole and any other part as soon as it is told: most of what templates hold. It leaves off at the
 // first part that is another: a count by an argument, a name or a star, a dot with no count behind it, a number of five digits, `x?`, `r#`, the word `_`, whitespace, a closing
 // brace that is missing. `quick::whole` tells most of these.
+#![tactic(auto)]
+
 mod short; // short.rt: specs that are counts alone, or a word alone
 
 ghost use Rattle.std.specs.Prelude.{◌≡◌, true, false, ◌+◌, ◌*◌, ◌≤◌, ◌<◌, length, get_or};

@@ -1,34 +1,36 @@
 // Places of the text and of the snippet, and the frame of a reading: quote offset, "end", source literal or not.
 // Rests on the choice by a test of `utf8`'s specs.
+#![tactic(auto)]
+
 ghost use Rattle.std.specs.Prelude.{◌≡◌, ◌≤◌, length};
 ghost use Rattle.frame.specs.Frames.{hashes_of, quote_offset, body, hash_marks, opening, closing, raw_literal, same, is_literal, frame_of};
 ghost use Rattle.frame.specs.Spans.{to_snippet, start_of, span_between};
 ghost use Rattle.frame.specs.Bounds.{Small};
 
 // A byte place in the text.
-#[derive(Drop)]
+#[derive(Clone, Copy)]
 pub struct TextPlace(pub usize);
 
 // A place in the snippet.
-#[derive(Drop)]
+#[derive(Clone, Copy)]
 pub struct SnippetPlace(pub usize);
 
 // Bytes of the text.
-#[derive(Drop)]
+#[derive(Clone, Copy)]
 pub struct TextRange {
     pub start: TextPlace,
     pub end: TextPlace,
 }
 
 // A part of the snippet; it may come out reversed, and is kept so.
-#[derive(Drop)]
+#[derive(Clone, Copy)]
 pub struct Span {
     pub start: SnippetPlace,
     pub end: SnippetPlace,
 }
 
 // Which grammar a text is read by.
-#[derive(Drop)]
+#[derive(Clone, Copy)]
 pub enum Mode {
     Format,
     InlineAsm,
@@ -36,14 +38,14 @@ pub enum Mode {
 }
 
 // No style, or a raw string with so many hashes.
-#[derive(Drop)]
+#[derive(Clone, Copy)]
 pub enum Style {
     Plain,
     Raw(u8),
 }
 
 // What does not change over a reading.
-#[derive(Drop)]
+#[derive(Clone, Copy)]
 pub struct Frame {
     pub quote: usize,
     pub end: SnippetPlace,

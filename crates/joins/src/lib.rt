@@ -1,1 +1,2 @@
 // Joined texts: definitions and theorems, in specs/. No code.
+#![tactic(auto)]

@@ -1,1 +1,2 @@
 // What holds of every reading: facts alone, no functions.
+#![tactic(auto)]

@@ -1,4 +1,6 @@
 // Whether a character is whitespace, starts an identifier or continues one, and the runs of such characters.
+#![tactic(auto)]
+
 ghost use Rattle.std.specs.Prelude.{◌≡◌, true, false, ◌<◌, T, length, get_or};
 ghost use Rattle.utf8.specs.Chars.{run_end};
 ghost use Rattle.letters.specs.Table.{member, ascending};
@@ -232,7 +234,7 @@ pub fn ascii_continue_end(text: &[u8], at: usize) -> usize
 }
 
 // A question that a run of characters is asked.
-#[derive(Drop)]
+#[derive(Clone, Copy)]
 enum Question {
     Space,
     Continue,

@@ -1,5 +1,7 @@
 // The full and the short listing of a call: each record a line, written through a buffer that the caller lends.
 // Every function takes the buffer and how much of it is used, and gives how much is used afterwards; a full buffer is written out.
+#![tactic(auto)]
+
 use frame::{Span, TextRange};
 use libc::STDOUT_FILENO;
 use placeholder::{Align, Argument, Fill, Hex, MaybeSpan, Place, Sign, Spec};

@@ -1,5 +1,7 @@
 // The end of literal text, for the lane that fills lists. Most literals between placeholders are short: the first sixteen bytes are looked at in place, each by a test of its own, and only a
 // long literal takes a call.
+#![tactic(auto)]
+
 ghost use Rattle.std.specs.Prelude.{◌≡◌, ◌+◌, ◌≤◌, ◌<◌, length};
 ghost use Rattle.utf8.specs.Chars.{run_end};
 ghost use Rattle.frame.specs.Places.{place};

@@ -11,7 +11,7 @@ use quick::PlaceholderTold;
 use reading::State;
 
 // A step: whether it is met here, where reading then stands, and what is met with it.
-#[derive(Drop)]
+#[derive(Clone, Copy)]
 pub struct MetOn {
     pub on: bool,
     pub state: State,

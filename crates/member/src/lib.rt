@@ -1,4 +1,6 @@
 // Whether a text is a member template: one pass over the steps of its reading, no list lent.
+#![tactic(auto)]
+
 mod clear; // clear.rt: steps in which nothing is wrong, met without their records
 
 ghost use Rattle.std.specs.Prelude.{◌≡◌, ◌<◌};
@@ -17,7 +19,7 @@ use reading::{Onward, Request, Step};
 use scan::Count;
 
 // Which sorts a piece is of.
-#[derive(Drop)]
+#[derive(Clone, Copy)]
 pub struct Sorts {
     pub unnamed: bool,
     pub taken: bool,
@@ -26,7 +28,7 @@ pub struct Sorts {
 }
 
 // What a run has met: how many pieces, and the first of each sort among them, or their number where none is.
-#[derive(Drop)]
+#[derive(Clone, Copy)]
 pub struct Met {
     pub pieces: usize,
     pub unnamed: usize,

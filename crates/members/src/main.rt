@@ -1,5 +1,7 @@
 // One Format text, no style and no snippet, from standard input to the verdict on it: `yes`, `rule R piece P`, or `answer N P` where it is refused.
 // Standard error has the same in words.
+#![tactic(auto)]
+
 ghost use Rattle.frame.specs.Bounds.{Small};
 
 use frame::{Frame, Mode, TextRange};
@@ -8,7 +10,7 @@ use membership::Verdict;
 use reading::{Hashes, Piece, Request};
 
 // Whether a text has a piece, and its bytes.
-#[derive(Drop)]
+#[derive(Clone, Copy)]
 struct PieceFound {
     there: bool,
     range: TextRange,

@@ -1,7 +1,8 @@
 // Member templates: what they are, the verdict on a text, and what holds of it. Definitions and theorems, in specs/; no functions.
+#![tactic(auto)]
 
 // The verdict on a text.
-#[derive(Drop)]
+#[derive(Clone, Copy)]
 pub enum Verdict {
     // It is a member template.
     Yes,

@@ -1,5 +1,7 @@
 // A step in which nothing is wrong, passed without its record: literal text, doubled braces, and a placeholder that `quick` tells. For runs that write no piece; what is not
 // passed here takes the plain step. What is asked of a placeholder that is told, and where reading stands after it, the lane that writes asks, too.
+#![tactic(auto)]
+
 pub mod after; // after.rt: the place of a placeholder that is told, and where reading stands after it
 
 ghost use Rattle.std.specs.Prelude.{◌≡◌, true, false, ◌+◌, ◌<◌, eqb, length};
@@ -14,7 +16,7 @@ use quick::PlaceholderTold;
 use reading::State;
 
 // A step: whether it is passed, where reading then stands, and how many characters it gave back.
-#[derive(Drop)]
+#[derive(Clone, Copy)]
 pub struct Passed {
     pub on: bool,
     pub state: State,

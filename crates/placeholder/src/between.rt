@@ -7,14 +7,14 @@ use crate::position::Found;
 use crate::{ArgumentFlaws, Place, Spec};
 use frame::{Frame, Mode, TextPlace};
 
-#[derive(Drop)]
+#[derive(Clone, Copy)]
 pub struct Resolved {
     pub place: Place,
     pub next: usize,
 }
 
 // A place and a spec, where reading stands after them, and the next argument's number.
-#[derive(Drop)]
+#[derive(Clone, Copy)]
 pub struct ArgumentRead {
     pub place: Place,
     // Where the place starts, and where it ends with the whitespace after it.

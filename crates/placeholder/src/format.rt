@@ -10,25 +10,25 @@ use frame::{Frame, TextPlace, TextRange};
 use scan::{Count, Flaw, Numeral};
 use utf8::Seen;
 
-#[derive(Drop)]
+#[derive(Clone, Copy)]
 pub struct FillRead {
     pub fill: Fill,
     pub at: TextPlace,
 }
 
-#[derive(Drop)]
+#[derive(Clone, Copy)]
 pub struct AlignRead {
     pub align: Align,
     pub at: TextPlace,
 }
 
-#[derive(Drop)]
+#[derive(Clone, Copy)]
 pub struct SignRead {
     pub sign: Sign,
     pub at: TextPlace,
 }
 
-#[derive(Drop)]
+#[derive(Clone, Copy)]
 pub struct WidthRead {
     pub zero: bool,
     pub width: Count,
@@ -38,7 +38,7 @@ pub struct WidthRead {
     pub given: usize,
 }
 
-#[derive(Drop)]
+#[derive(Clone, Copy)]
 pub struct PrecisionRead {
     pub precision: Count,
     pub span: MaybeSpan,
@@ -48,7 +48,7 @@ pub struct PrecisionRead {
     pub given: usize,
 }
 
-#[derive(Drop)]
+#[derive(Clone, Copy)]
 pub struct TypeRead {
     pub hex: Hex,
     pub typetext: TextRange,
@@ -58,7 +58,7 @@ pub struct TypeRead {
 }
 
 // A spec, where reading stands after it, the next argument's number, what its parts found wrong, and how many characters its counts gave back.
-#[derive(Drop)]
+#[derive(Clone, Copy)]
 pub struct SpecRead {
     pub spec: Spec,
     pub at: TextPlace,

@@ -1,4 +1,6 @@
 // What stands between two braces: a place, a spec in each mode's grammar, and what is found wrong there.
+#![tactic(auto)]
+
 use frame::{Span, TextRange};
 use scan::{Count, Flaw, Numeral};
 
@@ -8,27 +10,27 @@ pub mod modes; // modes.rt: the spec of each mode
 pub mod between; // between.rt: all between the braces
 
 // Where an argument is found: the next one, the one with a number, which may be over range, the one with a name.
-#[derive(Drop)]
+#[derive(Clone, Copy)]
 pub enum Place {
     Next(usize),
     At(Numeral),
     Named(TextRange),
 }
 
-#[derive(Drop)]
+#[derive(Clone, Copy)]
 pub enum MaybeSpan {
     Absent,
     Present(Span),
 }
 
 // The fill character's code, and its span.
-#[derive(Drop)]
+#[derive(Clone, Copy)]
 pub enum Fill {
     Absent,
     Present(u32, Span),
 }
 
-#[derive(Drop)]
+#[derive(Clone, Copy)]
 pub enum Align {
     Unknown,
     Left,
@@ -36,7 +38,7 @@ pub enum Align {
     Center,
 }
 
-#[derive(Drop)]
+#[derive(Clone, Copy)]
 pub enum Sign {
     Absent,
     Plus,
@@ -44,7 +46,7 @@ pub enum Sign {
 }
 
 // The `x` of `x?`, or the `X` of `X?`.
-#[derive(Drop)]
+#[derive(Clone, Copy)]
 pub enum Hex {
     Absent,
     Lower,
@@ -52,7 +54,7 @@ pub enum Hex {
 }
 
 // How an argument is to be written.
-#[derive(Drop)]
+#[derive(Clone, Copy)]
 pub struct Spec {
     pub fill: Fill,
     pub align: Align,
@@ -70,7 +72,7 @@ pub struct Spec {
 }
 
 // A placeholder's record.
-#[derive(Drop)]
+#[derive(Clone, Copy)]
 pub struct Argument {
     pub place: Place,
     pub placespan: Span,
@@ -80,7 +82,7 @@ pub struct Argument {
 }
 
 // What one argument found wrong, in the order of reading.
-#[derive(Drop)]
+#[derive(Clone, Copy)]
 pub struct ArgumentFlaws {
     pub place: Flaw,
     pub raw: Flaw,

@@ -6,14 +6,14 @@ use frame::{TextPlace, TextRange};
 use scan::{Flaw, Number, Numeral};
 
 // A place as it is written. Nothing: the place is counted once its spec is read.
-#[derive(Drop)]
+#[derive(Clone, Copy)]
 pub enum Found {
     Nothing,
     Number(Numeral),
     Word(TextRange),
 }
 
-#[derive(Drop)]
+#[derive(Clone, Copy)]
 pub struct PlaceRead {
     pub found: Found,
     pub at: TextPlace,

@@ -1,1 +1,2 @@
 // One way to write a template: definitions and theorems, in specs/. No code.
+#![tactic(auto)]

@@ -1,4 +1,6 @@
 // The public call for programs in other languages: a text's plain form, its answer as numbers. include/nitarehpu.h says the same in C's words.
+#![tactic(auto)]
+
 ghost use Rattle.std.specs.Prelude.{◌≡◌, ◌≤◌, length};
 ghost use Rattle.reading.specs.Written.{over};
 ghost use Rattle.plains.specs.Calls.{Asked, told_words};

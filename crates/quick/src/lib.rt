@@ -1,5 +1,7 @@
 // The parts of a placeholder of Format mode, told in plain numbers, with the faults that need no more than a look: a word `_`, and a closing brace
 // that is missing. What they tell is what `closing` reads, and what they do not tell is left to it. `whole` puts them together; `flawless` writes each part as soon as it is told.
+#![tactic(auto)]
+
 pub mod whole; // whole.rt: a placeholder by its parts, whatever is wrong in it
 pub mod clear; // clear.rt: one that ends at its closing brace, for runs that write nothing
 
@@ -18,7 +20,7 @@ use utf8::Seen;
 
 // A place or a count. Tag 0: nothing; 1: a number; 2: of a place a word, of a count a number with `$`; 3: a star; 4: a word with `$`; 5: a dot
 // with no count behind it; 9: it is not told. `blank`: the word `_` stands there, which is a fault.
-#[derive(Drop)]
+#[derive(Clone, Copy)]
 pub struct PartTold {
     pub tag: u8,
     pub value: u16,
@@ -27,14 +29,14 @@ pub struct PartTold {
 }
 
 // A precision, and how many characters were read for it and given back.
-#[derive(Drop)]
+#[derive(Clone, Copy)]
 pub struct PreciseTold {
     pub part: PartTold,
     pub given: usize,
 }
 
 // A word: where it ends, and whether it is known to be ASCII, a character each byte.
-#[derive(Drop)]
+#[derive(Clone, Copy)]
 pub struct WordTold {
     pub end: usize,
     pub ascii: bool,
@@ -42,7 +44,7 @@ pub struct WordTold {
 
 // A type: where its text starts and ends, and whether it is a word, and the word `_`. The text of `x?` and `X?` is the `?`, and what stands before it
 // is `hex`. Not `ok`: it is not told.
-#[derive(Drop)]
+#[derive(Clone, Copy)]
 pub struct TypeTold {
     pub ok: bool,
     pub hex: Hex,
@@ -54,7 +56,7 @@ pub struct TypeTold {
 
 // The spec after a colon: the place after its fill (that of the colon's end where there is none), its marks, where its width starts and the word
 // there ends, its other parts, and how many characters were read for a width or a precision and given back.
-#[derive(Drop)]
+#[derive(Clone, Copy)]
 pub struct SpecTold {
     pub ok: bool,
     pub fill: usize,
@@ -71,7 +73,7 @@ pub struct SpecTold {
 }
 
 // What is said of a sign where a closing brace was expected.
-#[derive(Drop)]
+#[derive(Clone, Copy)]
 pub enum SignHint {
     Silent,
     Misplaced,
@@ -82,7 +84,7 @@ pub enum SignHint {
 
 // A placeholder: its place, where the place ends with the whitespace after it, the spec if a colon stands there, where its closing brace stands or is
 // missing, and where reading goes on.
-#[derive(Drop)]
+#[derive(Clone, Copy)]
 pub struct PlaceholderTold {
     pub ok: bool,
     pub place: PartTold,

@@ -1,10 +1,12 @@
 // What a call takes and gives, what a reading is made of, and their definitions; no functions.
+#![tactic(auto)]
+
 use closing::whole::PlaceholderRead;
 use frame::{Span, TextPlace, TextRange};
 use placeholder::{Argument, MaybeSpan};
 
 // Where reading stands, the next argument's number, and how many arguments the pieces so far want.
-#[derive(Drop)]
+#[derive(Clone, Copy)]
 pub struct State {
     pub at: TextPlace,
     pub next: usize,
@@ -12,7 +14,7 @@ pub struct State {
 }
 
 // What one step comes to: the end of the text, a lone `}` at a place, a literal's view, or a placeholder.
-#[derive(Drop)]
+#[derive(Clone, Copy)]
 pub enum Step {
     End,
     Stop(TextPlace),
@@ -21,14 +23,14 @@ pub enum Step {
 }
 
 // Whether reading goes on after a step.
-#[derive(Drop)]
+#[derive(Clone, Copy)]
 pub enum Onward {
     Over,
     To(State),
 }
 
 // What a reading found wrong: the rules' fifteen kinds, with the places that their records are made from.
-#[derive(Drop)]
+#[derive(Clone, Copy)]
 pub enum Fault {
     // Nothing is wrong.
     Clean,
@@ -64,19 +66,19 @@ pub enum Fault {
     Comma(TextPlace, TextPlace),
 }
 
-#[derive(Drop)]
+#[derive(Clone, Copy)]
 pub enum Piece {
     Literal(TextRange),
     Placeholder(Argument),
 }
 
-#[derive(Drop)]
+#[derive(Clone, Copy)]
 pub enum MaybeRange {
     Absent,
     Present(TextRange),
 }
 
-#[derive(Drop)]
+#[derive(Clone, Copy)]
 pub struct ErrorRecord {
     // The rules' number of the kind.
     pub kind: u8,
@@ -89,7 +91,7 @@ pub struct ErrorRecord {
 }
 
 // How many records each list needs.
-#[derive(Drop)]
+#[derive(Clone, Copy)]
 pub struct Counts {
     pub pieces: usize,
     pub errors: usize,
@@ -98,14 +100,14 @@ pub struct Counts {
 }
 
 // No style, or a raw string with so many hashes.
-#[derive(Drop)]
+#[derive(Clone, Copy)]
 pub enum Hashes {
     Plain,
     Raw(usize),
 }
 
 // How a text is to be read. A snippet that is not given is not looked at.
-#[derive(Drop)]
+#[derive(Clone, Copy)]
 pub struct Request {
     pub mode: u8,
     pub style: Hashes,
@@ -114,7 +116,7 @@ pub struct Request {
 }
 
 // How many records each list has room for.
-#[derive(Drop)]
+#[derive(Clone, Copy)]
 pub struct Rooms {
     pub pieces: usize,
     pub errors: usize,
@@ -124,7 +126,7 @@ pub struct Rooms {
 
 // The rules' number (0: done), the place (of 4, else 0), the records needed (of 0 and 6 to 9, else none), and of 0 how many arguments
 // the pieces want and how many characters were passed, else 0.
-#[derive(Drop)]
+#[derive(Clone, Copy)]
 pub struct Answer {
     pub number: u8,
     pub place: usize,

@@ -1,5 +1,7 @@
 // What a program writes of a call: the lists are made here, lent to the reader, and listed, a line for each record.
 // Every function takes the output's buffer and how much of it is used, and gives how much is used afterwards (listing).
+#![tactic(auto)]
+
 ghost use Rattle.std.specs.Prelude.{◌≤◌};
 
 use frame::{SnippetPlace, Span, TextPlace, TextRange};

@@ -1,5 +1,7 @@
 // Asks the three questions of every scalar value and writes what they answer: for each question its name and the number of
 // maximal ranges, then the ranges, a line each, in hex. Surrogates are no scalar values, so no range crosses them.
+#![tactic(auto)]
+
 ghost use Rattle.std.specs.Prelude.{◌≤◌};
 
 use libc::STDOUT_FILENO;

@@ -1,4 +1,6 @@
 // The leaves of the reader, each at a place of the text: a character, whitespace, a word, a number, a count, a run of literal text.
+#![tactic(auto)]
+
 ghost use Rattle.std.specs.Prelude.{◌≡◌, ℕ, ◌+◌, ◌*◌, ◌<◌, ◌≤◌, true, length};
 ghost use Rattle.frame.specs.Bounds.{Small};
 ghost use Rattle.utf8.specs.Choice.{either};
@@ -14,7 +16,7 @@ use frame::{Frame, SnippetPlace, Span, TextPlace, TextRange};
 use utf8::Seen;
 
 // What a leaf of the reader found wrong, with the bytes that its record is made from.
-#[derive(Drop)]
+#[derive(Clone, Copy)]
 pub enum Flaw {
     // Nothing is wrong.
     Clean,
@@ -29,40 +31,40 @@ pub enum Flaw {
 }
 
 // Whether a character was there and was passed, and where reading stands.
-#[derive(Drop)]
+#[derive(Clone, Copy)]
 pub struct Consumed {
     pub ate: bool,
     pub at: TextPlace,
 }
 
 // A word, empty where none stands.
-#[derive(Drop)]
+#[derive(Clone, Copy)]
 pub struct WordRead {
     pub word: TextRange,
     pub flaw: Flaw,
 }
 
 // A number modulo 65,536, and whether it is above 65,535. Only the reading of digits carries it.
-#[derive(Drop)]
+#[derive(Clone, Copy)]
 pub struct Noted {
     pub value: u16,
     pub over: bool,
 }
 
 // A number that is written: itself, or over range where it is above 65,535.
-#[derive(Drop)]
+#[derive(Clone, Copy)]
 pub enum Numeral {
     Within(u16),
     Over,
 }
 
-#[derive(Drop)]
+#[derive(Clone, Copy)]
 pub enum Number {
     Nothing,
     Given(Numeral),
 }
 
-#[derive(Drop)]
+#[derive(Clone, Copy)]
 pub struct NumberRead {
     pub number: Number,
     pub digits: TextRange,
@@ -70,7 +72,7 @@ pub struct NumberRead {
 }
 
 // A width or a precision.
-#[derive(Drop)]
+#[derive(Clone, Copy)]
 pub enum Count {
     Implied,
     Fixed(Numeral),
@@ -80,7 +82,7 @@ pub enum Count {
 }
 
 // `given`: how many characters were read for it and given back.
-#[derive(Drop)]
+#[derive(Clone, Copy)]
 pub struct CountRead {
     pub count: Count,
     pub at: TextPlace,

@@ -1,1 +1,2 @@
 // Where an editor scrolls for an error: the law, in specs/. No code.
+#![tactic(auto)]

@@ -1,5 +1,7 @@
 // A list of Format texts, no style, from standard input to its totals, a line each; `answer 25 0` where the input is no list.
 // One text is held at a time, and nothing is written before the list has ended. A terminal as standard error is told how many texts are left.
+#![tactic(auto)]
+
 ghost use Rattle.std.specs.Prelude.{◌≡◌, ◌≤◌, length};
 ghost use Rattle.io.specs.Counts.{IsPrefixLen};
 ghost use Rattle.totals.specs.Adding.{Room};

@@ -1,4 +1,6 @@
 // Argument places and line spans, written into lent numbers, two for each span: start, end.
+#![tactic(auto)]
+
 ghost use Rattle.std.specs.Prelude.{◌≡◌, [], ◌∷◌, ◌+◌, ◌*◌, ◌≤◌, length};
 ghost use Rattle.utf8.specs.Chars.{ch};
 ghost use Rattle.frame.specs.Bounds.{Small};
@@ -13,7 +15,7 @@ use reading::{Onward, State, Step};
 use utf8::Seen;
 
 // Where the current line starts, and how many lines are written.
-#[derive(Drop)]
+#[derive(Clone, Copy)]
 pub struct LineRun {
     pub line: SnippetPlace,
     pub count: usize,

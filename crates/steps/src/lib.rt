@@ -1,4 +1,6 @@
 // One step of the reader: a doubled brace with the run after it, a run, a placeholder, a lone `}`, or the end.
+#![tactic(auto)]
+
 ghost use Rattle.std.specs.Prelude.{◌≡◌, ◌<◌};
 ghost use Rattle.frame.specs.Bounds.{Small};
 ghost use Rattle.reading.specs.Steps.{after_open, after_close, step_at, onward};

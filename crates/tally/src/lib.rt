@@ -1,4 +1,6 @@
 // How many records each list of a reading needs, how many arguments its pieces want, and how many characters it passes.
+#![tactic(auto)]
+
 ghost use Rattle.std.specs.Prelude.{◌≡◌, true, false, [], ◌∷◌, ◌+◌, ◌≤◌, ◌<◌, length};
 ghost use Rattle.frame.specs.Bounds.{Small};
 ghost use Rattle.reading.specs.Faults.{flaw_fault, hint_fault, argument_slots, missing_slots, closing_slots, wrong, faults_of};
@@ -21,7 +23,7 @@ use scan::Flaw;
 use utf8::Seen;
 
 // How many records, how many arguments, and how many moves.
-#[derive(Drop)]
+#[derive(Clone, Copy)]
 pub struct Tallied {
     pub counts: Counts,
     pub arguments: usize,

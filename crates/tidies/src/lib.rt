@@ -1,4 +1,6 @@
 // A text's plain form written into a lent output, or a refusal that leaves it as it was. No list is lent.
+#![tactic(auto)]
+
 ghost use Rattle.std.specs.Prelude.{◌≡◌, ◌≤◌, length};
 ghost use Rattle.plain.specs.Plainly.{plain_of};
 ghost use Rattle.tidiness.specs.Tidies.{Tidies};

@@ -1,7 +1,8 @@
 // A text's plain form as a call hands it out: what is answered, what the output then holds, and what holds of both. Definitions and theorems, in specs/; no functions.
+#![tactic(auto)]
 
 // The answer to a call.
-#[derive(Drop)]
+#[derive(Clone, Copy)]
 pub struct Tidied {
     // A refusal's number; 0: the plain form is written.
     pub number: u8,

@@ -1,5 +1,7 @@
 // One text from standard input to its plain form on standard output. The mode is the first argument: `format`, which it is without one, `asm` or `diagnostic`. Where the text
 // has none, standard error says why, and standard output stays empty.
+#![tactic(auto)]
+
 use desk::say;
 use libc::{STDIN_FILENO, STDOUT_FILENO};
 

@@ -1,4 +1,6 @@
 // The totals of texts: one text's added to those so far, in one pass over the steps of its reading; and those of a list in memory.
+#![tactic(auto)]
+
 mod clear; // clear.rt: steps in which nothing is wrong, counted without their records
 
 ghost use Rattle.std.specs.Prelude.{◌≡◌, [], ◌∷◌, ◌≤◌, length};

@@ -1,4 +1,6 @@
 // The next piece and the next error record of a run over the steps, by value.
+#![tactic(auto)]
+
 ghost use Rattle.std.specs.Prelude.{◌≡◌, ◌≤◌, false, length};
 ghost use Rattle.frame.specs.Bounds.{Small};
 ghost use Rattle.turns.specs.Turns.{Fresh, first_cursor, piece_of, PieceNext, FaultNext};
@@ -7,7 +9,7 @@ use frame::{Frame, Mode, TextPlace, TextRange};
 use reading::{ErrorRecord, Fault, Onward, Piece, State, Step};
 
 // Where a run over the steps stands, how many steps it may still take, and how many pieces those before it gave.
-#[derive(Drop)]
+#[derive(Clone, Copy)]
 pub struct Cursor {
     pub state: State,
     pub left: usize,
@@ -15,7 +17,7 @@ pub struct Cursor {
 }
 
 // The next piece, if there is one, and where the run stands after it.
-#[derive(Drop)]
+#[derive(Clone, Copy)]
 pub struct PieceTurn {
     pub more: bool,
     pub piece: Piece,
@@ -23,7 +25,7 @@ pub struct PieceTurn {
 }
 
 // The next fault's record, if there is one, and whether it is put at the front; the step that it is of, and the place after it there.
-#[derive(Drop)]
+#[derive(Clone, Copy)]
 pub struct FaultTurn {
     pub more: bool,
     pub front: bool,

@@ -1,4 +1,6 @@
 // A part of a text taken into a lent buffer, and what the finish asks of the bytes that were taken.
+#![tactic(auto)]
+
 ghost use Rattle.std.specs.Prelude.{◌≡◌, take};
 ghost use Rattle.utf8.specs.Choice.{either};
 ghost use Rattle.uploads.specs.Parts.{is_unfit, is_too_much, Part};

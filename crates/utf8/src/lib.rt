@@ -1,4 +1,6 @@
 // UTF-8 at any place of any bytes: the character there, the check of a text, which goes on from where it stood, and how many characters stand between two places.
+#![tactic(auto)]
+
 ghost use Rattle.std.specs.Prelude.{◌≡◌, ◌⊎◌, true, ℕ, ◌+◌, ◌≤◌, ◌<◌, length, get_or, drop};
 ghost use Rattle.utf8.specs.Choice.{within};
 ghost use Rattle.utf8.specs.Utf8.{low, high, code2, code3, code4, sequence_of, sequence_at, char_of, peek_at, valid_prefix};
@@ -8,21 +10,21 @@ ghost use Rattle.utf8.specs.CountLaws.{Passed};
 ghost use Rattle.utf8.specs.Blocks.{one, how_many, is_high, is_low, AsciiTo};
 
 // What stands at a place of a text: a character with its width in bytes, or nothing, past the end.
-#[derive(Drop)]
+#[derive(Clone, Copy)]
 pub enum Seen {
     Char { code: u32, width: usize },
     End,
 }
 
 // A well-formed sequence: the code that it spells and its width in bytes. Width 0: none.
-#[derive(Drop)]
+#[derive(Clone, Copy)]
 pub struct Sequence {
     pub code: u32,
     pub width: usize,
 }
 
 // How far a check came: the place up to which the bytes are UTF-8, and how many characters it passed.
-#[derive(Drop)]
+#[derive(Clone, Copy)]
 pub struct Checked {
     pub valid: usize,
     pub chars: usize,

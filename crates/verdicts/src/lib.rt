@@ -1,4 +1,6 @@
 // The public call for programs in other languages: the verdict on a text, as numbers. include/nitarehpu.h says the same in C's words.
+#![tactic(auto)]
+
 ghost use Rattle.std.specs.Prelude.{◌≡◌, ◌≤◌, length};
 ghost use Rattle.reading.specs.Written.{over};
 ghost use Rattle.words.specs.Calls.{request_of};
@@ -8,7 +10,7 @@ use membership::Verdict;
 use words::request::request_of;
 
 // A verdict told in numbers: a refusal's number and place, the broken rule and its piece; what it does not have is 0.
-#[derive(Drop)]
+#[derive(Clone, Copy)]
 pub struct Told {
     pub number: u8,
     pub place: usize,

@@ -1,5 +1,7 @@
 // Pieces and error records as plain numbers, for callers in other languages: 40 numbers a piece, 16 an error record, written four at a time.
 // specs/Layout.antt has the layout, and include/nitarehpu.h the same in C's words.
+#![tactic(auto)]
+
 ghost use Rattle.std.specs.Prelude.{◌≡◌, ◌+◌, ◌*◌, ◌≤◌, length};
 ghost use Rattle.frame.specs.Places.{place, range_of};
 ghost use Rattle.words.specs.Laid.{laid};

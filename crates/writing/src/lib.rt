@@ -1,4 +1,6 @@
 // A step, written from its record: its piece, and its error records before or after those that are there.
+#![tactic(auto)]
+
 ghost use Rattle.std.specs.Prelude.{◌≡◌, false, [], ◌∷◌, ◌+◌, ◌*◌, ◌≤◌, ◌<◌, length};
 ghost use Rattle.frame.specs.Bounds.{Small};
 ghost use Rattle.reading.specs.Faults.{is_clean, step_slots};
@@ -13,7 +15,7 @@ use reading::{Fault, Onward, State, Step};
 use words::{put_argument, put_error, put_literal};
 
 // What is written: how many pieces, where the error records begin and end, and how many records of the front were met.
-#[derive(Drop)]
+#[derive(Clone, Copy)]
 pub struct Extent {
     pub pieces: usize,
     pub low: usize,
@@ -22,7 +24,7 @@ pub struct Extent {
 }
 
 // Whether reading goes on, where it stands, what is written, and how many characters the step gave back.
-#[derive(Drop)]
+#[derive(Clone, Copy)]
 pub struct StepWritten {
     pub more: bool,
     pub state: State,
