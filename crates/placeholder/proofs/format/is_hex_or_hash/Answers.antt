@@ -1,0 +1,24 @@
+-- `placeholder::format::is_hex_or_hash` meets its contract: it is the definition, test by test.
+use Rattle.utf8.specs.Choice.{pick}
+use Rattle.placeholder.specs.Types.{is_hex_or_hash}
+use Rattle.placeholder.proofs.format.is_hex_or_hash.Goals as goal
+
+pub returns-then-peek_is : goal.returns-then-peek_is
+unfolding is_hex_or_hash pick
+returns-then-peek_is c = rw (← c.peek_is.ensures, c.if-peek_is.true)
+
+pub returns-then-peek_is-2 : goal.returns-then-peek_is-2
+unfolding is_hex_or_hash pick
+returns-then-peek_is-2 c =
+    rw (← c.peek_is.ensures, c.if-peek_is.false, ← c.peek_is-2.ensures, c.if-peek_is-2.true)
+
+pub returns : goal.returns
+unfolding is_hex_or_hash pick
+returns c =
+    rw (
+      ← c.peek_is.ensures,
+      c.if-peek_is.false,
+      ← c.peek_is-2.ensures,
+      c.if-peek_is-2.false,
+      ← c.peek_is-3.ensures,
+    )
