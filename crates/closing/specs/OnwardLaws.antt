@@ -102,9 +102,9 @@ module _ (t : List ℕ) where
         pick_elim P _ (λ _. stay at) (λ _. pick_elim P _ (λ _. then (word at) (raw_place_lem _)) (λ _. word at))
 
     -- over the place of an argument
-    pub place_read : Onward t at (place_read t at).at
+    pub place_read_lem : Onward t at (place_read t at).at
     unfolding place_read
-    place_read = go (number_read t at).number
+    place_read_lem = go (number_read t at).number
       where
         go : (n : Number) → Onward t at (place_after t at (number_read t at) n).at
         go (Number.Given n) = number at
@@ -202,7 +202,7 @@ module _ (t : List ℕ) where
     -- over all that stands between the braces
     pub argument_onward : (m : Mode) (at : TextPlace) (n : ℕ) → Onward t at (argument_read t f m at n).at
     unfolding argument_read
-    argument_onward m at n = then (place_read at) (then (spaces _) (spec m _ n))
+    argument_onward m at n = then (place_read_lem at) (then (spaces _) (spec m _ n))
 
   -- over what follows a `?` where a closing brace is missing
   after_question_lem : (at past : TextPlace) (n : ℕ) → Onward t past (after_question t at past n).at

@@ -100,15 +100,15 @@ module _ (t : List ℕ) (at : ℕ) (u : Unmarked (get_or t at 0)) where
         lacks t at 0x5E (omega arith) (omega arith) u.center,
       )
 
-  no_sign : record { sign = Sign.Absent; at = place at } ≡ sign_read t (place at)
+  no_sign_lem : record { sign = Sign.Absent; at = place at } ≡ sign_read t (place at)
   unfolding sign_read pick
-  no_sign = rw (lacks t at 0x2B (omega arith) (omega arith) u.plus, lacks t at 0x2D (omega arith) (omega arith) u.minus)
+  no_sign_lem = rw (lacks t at 0x2B (omega arith) (omega arith) u.plus, lacks t at 0x2D (omega arith) (omega arith) u.minus)
 
   unmarked : Marks t at (record { align = Align.Unknown; at = place at }) (record { sign = Sign.Absent; at = place at }) here here
   unmarked =
       record {
         align = no_align_lem;
-        sign = no_sign;
+        sign = no_sign_lem;
         hash = sym (lacks t at 0x23 (omega arith) (omega arith) u.hash);
         flag = sym (lacks t at 0x30 (omega arith) (omega arith) u.flag);
       }

@@ -54,21 +54,21 @@ module _ (t : List ℕ) (f : Frame) (m : Mode) (s : State) where
 
   -- A PLACEHOLDER in which nothing is wrong is passed
   module _ (o : OpenAt t s.at.0) {x : PlaceholderTold} (l : Tells t (s.at.0 + 1) x) (c : ClearTold m x) where
-    pub open_step : Step.Placeholder (told_read t f s.at.0 s.next x) ≡ step_at t f m s
-    open_step = step_told t f m s x o.within o.brace o.alone l c.told c.speaks
+    pub open_step_lem : Step.Placeholder (told_read t f s.at.0 s.next x) ≡ step_at t f m s
+    open_step_lem = step_told t f m s x o.within o.brace o.alone l c.told c.speaks
 
     pub open_clear : {a : State} → a ≡ told_state s x → Clear t f m s a
     unfolding told_read
     open_clear q =
         record {
-          clean = rw (← open_step) (flawless_clean t f s.at.0 s.next x c.flawless);
-          goes = rw (← open_step) (told_on t f s x q);
-          one = rw (← open_step) refl;
+          clean = rw (← open_step_lem) (flawless_clean t f s.at.0 s.next x c.flawless);
+          goes = rw (← open_step_lem) (told_on t f s x q);
+          one = rw (← open_step_lem) refl;
         }
 
     pub open_given : x.spec.given ≡ given_by (step_at t f m s)
     unfolding told_read
-    open_given = rw (← open_step) refl
+    open_given = rw (← open_step_lem) refl
 
     pub open_passes : {a : State} → a ≡ told_state s x → Passes t f m s (record { on = true; state = a; given = x.spec.given })
     open_passes q = record { clear = λ _. open_clear q; given = λ _. open_given }

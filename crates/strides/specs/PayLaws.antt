@@ -31,7 +31,7 @@ use Rattle.placeholder.specs.declared.format.PrecisionRead.{PrecisionRead}
 use Rattle.placeholder.specs.declared.format.SpecRead.{SpecRead}
 use Rattle.placeholder.specs.declared.format.TypeRead.{TypeRead}
 use Rattle.placeholder.specs.declared.format.WidthRead.{WidthRead}
-use Rattle.closing.specs.OnwardLaws.{place_read, fill as over-fill, align as over-align, sign as over-sign, width as over-width, precision as over-precision, recover_onward}
+use Rattle.closing.specs.OnwardLaws.{place_read_lem, fill as over-fill, align as over-align, sign as over-sign, width as over-width, precision as over-precision, recover_onward}
 use Rattle.closing.specs.Recovery.{passed_to, field_read, recover_read}
 use Rattle.closing.specs.Recovering.{after_question, recovering, recover_table}
 use Rattle.closing.specs.Wholes.{missing_read, placeholder_read}
@@ -184,7 +184,7 @@ module _ (t : List ℕ) (f : Frame) where
     -- ALL BETWEEN THE BRACES
     argument_paid : (at : TextPlace) (n : ℕ) → Paid t m at.0 (argument_read t f m at n).at.0 (argument_read t f m at n).given
     unfolding argument_read
-    argument_paid at n = paid_after (reached_then (place_read t at).reached (reached_spaces t _)) (spec_paid _ n)
+    argument_paid at n = paid_after (reached_then (place_read_lem t at).reached (reached_spaces t _)) (spec_paid _ n)
 
     -- a closing brace behind it is no continuation
     close_paid : {i g : ℕ} (at : TextPlace) → Paid t m i at.0 g → Paid t m i (consumed t at 0x7D).at.0 g

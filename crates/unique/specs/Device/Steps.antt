@@ -249,11 +249,11 @@ module _ (t : List ℕ) (f : Frame) (m : Mode) where
       (λ l. rw (l, inside_step) (raw_wrong s.at (place (s.at.0 + 1)) s.next cs k l))
       (λ l. rw (l, inside_step) (close_same s cs (inside_of m cs).rest h k l refl))
 
-  open_step : (s : State) (cs : List ℕ) → Stands t s.at.0 (0x7B ∷ cs) → Stands t (s.at.0 + 1) cs →
+  open_step_lem : (s : State) (cs : List ℕ) → Stands t s.at.0 (0x7B ∷ cs) → Stands t (s.at.0 + 1) cs →
       Same s (open_step m cs) (after_open t f m s.at (place (s.at.0 + 1)) s.next)
   unfolding open_step after_open pick
-  open_step s [] h k = rw (consume_no t (place (s.at.0 + 1)) 0x7B [] k refl) (inside_step_lem s [] h k)
-  open_step s (d ∷ ds) h k =
+  open_step_lem s [] h k = rw (consume_no t (place (s.at.0 + 1)) 0x7B [] k refl) (inside_step_lem s [] h k)
+  open_step_lem s (d ∷ ds) h k =
       let at : TextPlace = place (s.at.0 + 1) in
       case_b (eqb d 0x7B)
       (λ l.
@@ -291,7 +291,7 @@ module _ (t : List ℕ) (f : Frame) (m : Mode) where
       case_b (eqb c 0x7B)
       (λ k.
       let q = eqb-true c 0x7B k in
-      rw (i, consume_yes t s.at 0x7B (c ∷ cs) h k, k, step) (open_step s cs (rw q at h) (past_ascii t s.at.0 0x7B c cs (omega arith) h k)))
+      rw (i, consume_yes t s.at 0x7B (c ∷ cs) h k, k, step) (open_step_lem s cs (rw q at h) (past_ascii t s.at.0 0x7B c cs (omega arith) h k)))
       (λ k.
       case_b (eqb c 0x7D)
       (λ l.

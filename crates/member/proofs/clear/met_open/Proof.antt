@@ -3,7 +3,7 @@ use borrow.Author.Rules.{rules}
 use borrow.Author.Tests.{not-false}
 use mathlib.Core.Path.{sym, ap, ◌∙◌}
 use Rattle.frame.specs.declared.Mode.{Mode}
-use Rattle.passing.proofs.Passings.{open_step, open_clear}
+use Rattle.passing.proofs.Passings.{open_step_lem, open_clear}
 use Rattle.member.specs.Meetings.{met_step}
 use Rattle.member.proofs.Clearing.{not_met, told_met}
 use Rattle.member.proofs.clear.met_open.Statement.{statement}
@@ -54,7 +54,7 @@ returns_2 c =
       met = λ _.
           rw (c.met-piece.ensures, c.before.before.sorts-at.ensures, c.before.before.before.Takes-told.ensures, c.before.before.before.before.place_of.ensures, c.before.before.before.before.before.after-star.ensures)
           (sym (told_met a.text.now a.frame a.state.at.0 a.state.next x (l.wide k.told) (l.precise k.told) a.met)
-          ∙ ap (met_step a.text.now a.met) (open_step a.text.now a.frame Mode.Format a.state s.requires.2 l k));
+          ∙ ap (met_step a.text.now a.met) (open_step_lem a.text.now a.frame Mode.Format a.state s.requires.2 l k));
     }
 
 pub met_open_spec : {M : Type 1} → statement M
