@@ -34,7 +34,7 @@ use Rattle.placeholder.specs.declared.position.PlaceRead.{PlaceRead}
 use Rattle.placeholder.specs.declared.format.SpecRead.{SpecRead}
 use Rattle.closing.specs.declared.recover.Recovery.{Recovery}
 use Rattle.closing.specs.declared.whole.PlaceholderRead.{PlaceholderRead}
-use Rattle.reading.specs.Steps.{after_open, after_close, step_at, onward, start, reading}
+use Rattle.reading.specs.Steps.{after_open, after_close, step_at, onward, reading}
 use Rattle.laws.specs.StepLaws.{step_later, Run, reading_run}
 use Rattle.reading.specs.Lines.{chars_in, is_newline, ch_start, cut, line_after, ended_lines, line_start}
 use Rattle.reading.specs.Lists.{gather, texts_of, literal_chars, to_the_end, same_span, is_last, lines_in, lines}
@@ -51,7 +51,7 @@ pub data InOrder : ℕ → List Ch → ℕ → Type 0 where
 -- they do so from any byte before i, and by any byte after j
 pub order_wide : {h i j k : ℕ} {cs : List Ch} → h ≤ i → j ≤ k → InOrder i cs j → InOrder h cs k
 order_wide l r (InOrder.none o) = InOrder.none (le_trans l (le_trans o r))
-order_wide l r (InOrder.more a w o) = InOrder.more (le_trans l a) w (order_wide (le_refl _) r o)
+order_wide {h = h} {k = k} l r (InOrder.more {i = i} {j = j} {c = c} {cs = cs} a w o) = InOrder.more (le_trans l a) w (order_wide {h = c.at + c.width} (le_refl _) r o)
 
 -- joined
 pub order_append : {i j k : ℕ} {a b : List Ch} → InOrder i a j → InOrder j b k → InOrder i (a ++ b) k
@@ -79,8 +79,9 @@ module _ (t : List ℕ) where
       let w = peeked t i f.seen in
       let at = f.place in
       let l : c.at < i + (c.width + bytes p) = omega arith in
-      let same : i + c.width + bytes p ≡ i + (c.width + bytes p) = omega arith in
-      rw (e, lt-ltb c.at (i + (c.width + bytes p)) l, ← f.rest, ← same, before_bytes p q (i + c.width) f.rest)
+      let sum : i + c.width + bytes p ≡ i + (c.width + bytes p) = omega arith in
+      let rest : before (i + (c.width + bytes p)) (chars_from t (i + c.width)) ≡ p = subst (λ k. before k (chars_from t (i + c.width)) ≡ p) sum (before_bytes p q (i + c.width) f.rest) in
+      rw (e, lt-ltb c.at (i + (c.width + bytes p)) l, ← f.rest) (ap (◌∷◌ c) rest)
 
   -- so the characters of a run are those between its ends
   pub run_chars : (g : ℕ → Bool) (i : ℕ) → before (run_end g t i) (chars_from t i) ≡ take_while g (chars_from t i)
