@@ -1,0 +1,45 @@
+-- `quick::word_at` meets its contract: an ASCII byte is its own character, and 0, which stands past the end too, starts no word and continues none;
+-- where another letter follows, the word goes on from there.
+use borrow.Author.Tests.{not-true, not-false}
+use mathlib.Core.Path.{◌≡◌, sym, ◌∙◌, ap}
+use mathlib.Core.Logic.{⊎_elim}
+use mathlib.Core.Bool.{true≢false}
+use native.Mathlib.Omega.{arith}
+use Rattle.frame.specs.Places.{place}
+use Rattle.scan.specs.Words.{word_end, word_from}
+use Rattle.scan.specs.ScanLaws.{word_on}
+use Rattle.frame.specs.declared.TextPlace.{TextPlace}
+use Rattle.scan.specs.AsciiWordLaws.{word_start, word_none, continue_stop}
+use Rattle.quick.proofs.Bytes.{word_anew, word_further, no_chars, start_chars}
+use Rattle.quick.proofs.word_at.Goals as goal
+
+pub returns-then-not-ascii_start : goal.returns-then-not-ascii_start
+returns-then-not-ascii_start c =
+    record {
+      ends = sym (word_none _ _ c.byte-b.ensures c.if-b-lt128.true (sym c.ascii_start.ensures ∙ not-true _ c.if-not-ascii_start.true-raw));
+      on = omega arith;
+      chars = λ _. omega (arith, no_chars c.args.text.now c.args.at);
+    }
+
+pub returns-then-byte-lt128 : goal.returns-then-byte-lt128
+returns-then-byte-lt128 c =
+    let e = c.ascii_end-known.ensures in
+    let start = sym c.ascii_start.ensures ∙ not-false _ c.if-not-ascii_start.false-raw in
+    let low = c.if-b-lt128.true in
+    record {
+      ends = sym (continue_stop _ _ c.byte.ensures c.if-byte-lt128.true e.ends) ∙ e.run ∙ sym (word_start _ _ c.byte-b.ensures low start);
+      on = omega (arith, e.on);
+      chars = λ _. start_chars _ _ c.byte-b.ensures low start e;
+    }
+
+pub returns : goal.returns
+returns c =
+    let t = c.args.text.now in
+    let at = c.args.at in
+    let known : (word_from t (place at) c.if-b-lt128.known).0 ≡ (word_end t (place at)).0 =
+    ⊎_elim
+    (λ w. rw w.6 (word_further t at c.byte-b.ensures w.0.taken (sym w.1.ensures ∙ not-false _ w.2.left) w.3.ensures))
+    (λ w. word_anew t at w.1)
+    c.if-b-lt128.branch in
+    let e = rw c.whole.ensures at (ap (λ (p : TextPlace). p.0) c.word_from-end.ensures) ∙ known in
+    record { ends = e; on = rw e (word_on _ _); chars = λ y. absurd (true≢false (sym y)) }
