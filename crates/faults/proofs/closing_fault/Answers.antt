@@ -2,12 +2,6 @@
 use Rattle.reading.specs.Faults.{closing_slots}
 use Rattle.faults.proofs.closing_fault.Goals as goal
 
-pub enum_told-1 : goal.enum_told-1
-enum_told-1 c = c.in-Closed.keys1
-
-pub enum_known-closing : goal.enum_known-closing
-enum_known-closing c = c.in-Closed.keys2
-
 pub missing_fault-requires : goal.missing_fault-requires
 missing_fault-requires c = tt
 

@@ -2,20 +2,8 @@
 use Rattle.reading.specs.Faults.{step_slots}
 use Rattle.faults.proofs.fault_at.Goals as goal
 
-pub enum_told-1 : goal.enum_told-1
-enum_told-1 c = c.in-End.keys1
-
-pub enum_known-step : goal.enum_known-step
-enum_known-step c = c.in-End.keys2
-
 pub stop_fault-requires : goal.stop_fault-requires
 stop_fault-requires c = tt
-
-pub enum_told-in-Literal : goal.enum_told-in-Literal
-enum_told-in-Literal c = c.in-End.keys3
-
-pub enum_known-step-in-Placeholder-1 : goal.enum_known-step-in-Placeholder-1
-enum_known-step-in-Placeholder-1 c = c.in-End.keys4
 
 pub placeholder_fault-requires : goal.placeholder_fault-requires
 placeholder_fault-requires c = tt

@@ -4,18 +4,6 @@ use mathlib.Core.Bool.{true≢false}
 use Rattle.reading.specs.Faults.{step_slots, wrong}
 use Rattle.faults.proofs.is_clear.Goals as goal
 
-pub enum_told-1 : goal.enum_told-1
-enum_told-1 c = c.in-End.keys1
-
-pub enum_told-in-Stop : goal.enum_told-in-Stop
-enum_told-in-Stop c = c.in-End.keys2
-
-pub enum_told-in-Literal : goal.enum_told-in-Literal
-enum_told-in-Literal c = c.in-End.keys3
-
-pub enum_known-step : goal.enum_known-step
-enum_known-step c = c.in-End.keys4
-
 pub is_sound-requires : goal.is_sound-requires
 is_sound-requires c = tt
 

@@ -5,14 +5,8 @@ use mathlib.Core.List.{append-nil}
 use Rattle.reading.specs.Faults.{closing_slots}
 use Rattle.faults.proofs.is_sound.Goals as goal
 
-pub enum_told-1 : goal.enum_told-1
-enum_told-1 c = c.in-Closed.keys1
-
 pub no_flaws-requires : goal.no_flaws-requires
 no_flaws-requires c = tt
-
-pub enum_told-in-Missing : goal.enum_told-in-Missing
-enum_told-in-Missing c = c.in-Closed.keys2
 
 pub returns-in-Closed : goal.returns-in-Closed
 unfolding closing_slots

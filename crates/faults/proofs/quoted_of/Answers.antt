@@ -2,29 +2,14 @@
 use Rattle.faults.proofs.FaultKinds.{no_quote}
 use Rattle.faults.proofs.quoted_of.Goals as goal
 
-pub enum_known-fault : goal.enum_known-fault
-enum_known-fault c = c.in-Expected.keys1
-
 pub character_at-requires : goal.character_at-requires
 character_at-requires c = tt
-
-pub enum_known-fault-in-AfterDebug-1 : goal.enum_known-fault-in-AfterDebug-1
-enum_known-fault-in-AfterDebug-1 c = c.in-Expected.keys2
 
 pub past-sign-requires : goal.past-sign-requires
 past-sign-requires c = tt
 
 pub character_at-requires-in-AfterDebug : goal.character_at-requires-in-AfterDebug
 character_at-requires-in-AfterDebug c = tt
-
-pub enum_known-fault-in-TooLarge-1 : goal.enum_known-fault-in-TooLarge-1
-enum_known-fault-in-TooLarge-1 c = c.in-Expected.keys3
-
-pub enum_known-fault-in-DebugFirst-1 : goal.enum_known-fault-in-DebugFirst-1
-enum_known-fault-in-DebugFirst-1 c = c.in-Expected.keys4
-
-pub enum_known-fault-in-Misplaced-1 : goal.enum_known-fault-in-Misplaced-1
-enum_known-fault-in-Misplaced-1 c = c.in-Expected.keys5
 
 pub character_at-requires-in-Misplaced : goal.character_at-requires-in-Misplaced
 character_at-requires-in-Misplaced c = tt

@@ -2,17 +2,11 @@
 use Rattle.faults.proofs.FaultKinds.{no_second}
 use Rattle.faults.proofs.second_of.Goals as goal
 
-pub enum_known-fault : goal.enum_known-fault
-enum_known-fault c = c.in-Expected.keys1
-
 pub span_at-requires : goal.span_at-requires
 span_at-requires c = c.requires
 
 pub returns-in-Expected : goal.returns-in-Expected
 returns-in-Expected c = rw (c.in-Expected.is, ← c.span_at.ensures)
-
-pub enum_known-fault-in-Unclosed-1 : goal.enum_known-fault-in-Unclosed-1
-enum_known-fault-in-Unclosed-1 c = c.in-Expected.keys2
 
 pub span_at-requires-in-Unclosed : goal.span_at-requires-in-Unclosed
 span_at-requires-in-Unclosed c = c.requires
@@ -20,17 +14,11 @@ span_at-requires-in-Unclosed c = c.requires
 pub returns-in-Unclosed : goal.returns-in-Unclosed
 returns-in-Unclosed c = rw (c.in-Unclosed.is, ← c.span_at-in-Unclosed.ensures)
 
-pub enum_known-fault-in-Equals-1 : goal.enum_known-fault-in-Equals-1
-enum_known-fault-in-Equals-1 c = c.in-Expected.keys3
-
 pub span_at-requires-in-Equals : goal.span_at-requires-in-Equals
 span_at-requires-in-Equals c = c.requires
 
 pub returns-in-Equals : goal.returns-in-Equals
 returns-in-Equals c = rw (c.in-Equals.is, ← c.span_at-in-Equals.ensures)
-
-pub enum_known-fault-in-Comma-1 : goal.enum_known-fault-in-Comma-1
-enum_known-fault-in-Comma-1 c = c.in-Expected.keys4
 
 pub span_at-requires-in-Comma : goal.span_at-requires-in-Comma
 span_at-requires-in-Comma c = c.requires

@@ -1,32 +1,14 @@
 -- By the kind of the fault: each arm is the span that the definition has.
 use Rattle.faults.proofs.span_of.Goals as goal
 
-pub enum_told-1 : goal.enum_told-1
-enum_told-1 c = c.in-Clean.keys1
-
-pub enum_known-fault : goal.enum_known-fault
-enum_known-fault c = c.in-Clean.keys2
-
 pub span_across-requires : goal.span_across-requires
 span_across-requires c = c.requires
-
-pub enum_known-fault-in-Expected-1 : goal.enum_known-fault-in-Expected-1
-enum_known-fault-in-Expected-1 c = c.in-Clean.keys3
 
 pub span_between-requires : goal.span_between-requires
 span_between-requires c = c.requires
 
-pub enum_told-in-Unclosed : goal.enum_told-in-Unclosed
-enum_told-in-Unclosed c = c.in-Clean.keys4
-
-pub enum_known-fault-in-RawName-1 : goal.enum_known-fault-in-RawName-1
-enum_known-fault-in-RawName-1 c = c.in-Clean.keys5
-
 pub span_between-requires-in-RawName : goal.span_between-requires-in-RawName
 span_between-requires-in-RawName c = c.requires
-
-pub enum_known-fault-in-AfterDebug-1 : goal.enum_known-fault-in-AfterDebug-1
-enum_known-fault-in-AfterDebug-1 c = c.in-Clean.keys6
 
 pub past-sign-requires : goal.past-sign-requires
 past-sign-requires c = tt
@@ -34,62 +16,32 @@ past-sign-requires c = tt
 pub span_across-requires-in-AfterDebug : goal.span_across-requires-in-AfterDebug
 span_across-requires-in-AfterDebug c = c.requires
 
-pub enum_known-fault-in-Underscore-1 : goal.enum_known-fault-in-Underscore-1
-enum_known-fault-in-Underscore-1 c = c.in-Clean.keys7
-
 pub span_between-requires-in-Underscore : goal.span_between-requires-in-Underscore
 span_between-requires-in-Underscore c = c.requires
-
-pub enum_known-fault-in-TooLarge-1 : goal.enum_known-fault-in-TooLarge-1
-enum_known-fault-in-TooLarge-1 c = c.in-Clean.keys8
 
 pub span_across-requires-in-TooLarge : goal.span_across-requires-in-TooLarge
 span_across-requires-in-TooLarge c = c.requires
 
-pub enum_known-fault-in-DebugFirst-1 : goal.enum_known-fault-in-DebugFirst-1
-enum_known-fault-in-DebugFirst-1 c = c.in-Clean.keys9
-
 pub span_across-requires-in-DebugFirst : goal.span_across-requires-in-DebugFirst
 span_across-requires-in-DebugFirst c = c.requires
-
-pub enum_known-fault-in-NoColon-1 : goal.enum_known-fault-in-NoColon-1
-enum_known-fault-in-NoColon-1 c = c.in-Clean.keys10
 
 pub span_across-requires-in-NoColon : goal.span_across-requires-in-NoColon
 span_across-requires-in-NoColon c = c.requires
 
-pub enum_known-fault-in-Equals-1 : goal.enum_known-fault-in-Equals-1
-enum_known-fault-in-Equals-1 c = c.in-Clean.keys11
-
 pub span_across-requires-in-Equals : goal.span_across-requires-in-Equals
 span_across-requires-in-Equals c = c.requires
-
-pub enum_known-fault-in-Misplaced-1 : goal.enum_known-fault-in-Misplaced-1
-enum_known-fault-in-Misplaced-1 c = c.in-Clean.keys12
 
 pub span_across-requires-in-Misplaced : goal.span_across-requires-in-Misplaced
 span_across-requires-in-Misplaced c = c.requires
 
-pub enum_known-fault-in-PlusFirst-1 : goal.enum_known-fault-in-PlusFirst-1
-enum_known-fault-in-PlusFirst-1 c = c.in-Clean.keys13
-
 pub span_across-requires-in-PlusFirst : goal.span_across-requires-in-PlusFirst
 span_across-requires-in-PlusFirst c = c.requires
-
-pub enum_known-fault-in-Field-1 : goal.enum_known-fault-in-Field-1
-enum_known-fault-in-Field-1 c = c.in-Clean.keys14
 
 pub span_between-requires-in-Field : goal.span_between-requires-in-Field
 span_between-requires-in-Field c = c.requires
 
-pub enum_known-fault-in-TupleIndex-1 : goal.enum_known-fault-in-TupleIndex-1
-enum_known-fault-in-TupleIndex-1 c = c.in-Clean.keys15
-
 pub span_between-requires-in-TupleIndex : goal.span_between-requires-in-TupleIndex
 span_between-requires-in-TupleIndex c = c.requires
-
-pub enum_known-fault-in-Comma-1 : goal.enum_known-fault-in-Comma-1
-enum_known-fault-in-Comma-1 c = c.in-Clean.keys16
 
 pub span_across-requires-in-Comma : goal.span_across-requires-in-Comma
 span_across-requires-in-Comma c = c.requires

@@ -2,26 +2,17 @@
 use Rattle.faults.proofs.FaultKinds.{no_suggestion}
 use Rattle.faults.proofs.suggestion_of.Goals as goal
 
-pub enum_known-fault : goal.enum_known-fault
-enum_known-fault c = c.in-RawName.keys1
-
 pub past-hash-requires : goal.past-hash-requires
 past-hash-requires c = tt
 
 pub span_across-requires : goal.span_across-requires
 span_across-requires c = c.requires
 
-pub enum_known-fault-in-AfterDebug-1 : goal.enum_known-fault-in-AfterDebug-1
-enum_known-fault-in-AfterDebug-1 c = c.in-RawName.keys2
-
 pub past-sign-requires : goal.past-sign-requires
 past-sign-requires c = tt
 
 pub span_across-requires-in-AfterDebug : goal.span_across-requires-in-AfterDebug
 span_across-requires-in-AfterDebug c = c.requires
-
-pub enum_known-fault-in-NoColon-1 : goal.enum_known-fault-in-NoColon-1
-enum_known-fault-in-NoColon-1 c = c.in-RawName.keys3
 
 pub span_at-requires : goal.span_at-requires
 span_at-requires c = c.requires
