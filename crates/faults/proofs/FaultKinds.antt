@@ -2,13 +2,12 @@
 -- Rests on the definitions of Records.
 use Prim.Native.Nat.{ℕ}
 use mathlib.Core.Path.{◌≡◌, refl}
-use mathlib.Core.List.{List, [], ◌∷◌}
-use denote.Enum.Declared.{tag_of}
-use types.Run.{OneOf, miss}
+use mathlib.Core.List.{List}
 use lib.Dec.{eqb, leb}
 use Rattle.utf8.specs.Choice.{either}
 use Rattle.frame.specs.declared.Frame.{Frame}
-use Rattle.reading.specs.contracts.Fault.{the_type}
+use Rattle.frame.specs.declared.TextPlace.{TextPlace}
+use Rattle.frame.specs.declared.TextRange.{TextRange}
 use Rattle.reading.specs.declared.Fault.{Fault}
 use Rattle.placeholder.specs.declared.MaybeSpan.{MaybeSpan}
 use Rattle.reading.specs.Faults.{is_clean}
@@ -55,67 +54,58 @@ front_kinds (Fault.TupleIndex a b) = refl
 front_kinds (Fault.Comma p brace) = refl
 
 -- all but 2, 3, 10, 15 have no second span
-abbrev without_second : List ℕ
-without_second = 0 ∷ 1 ∷ 4 ∷ 5 ∷ 6 ∷ 7 ∷ 8 ∷ 9 ∷ 11 ∷ 12 ∷ 13 ∷ 14 ∷ []
-
-pub no_second : (t : List ℕ) (f : Frame) (x : Fault) → OneOf without_second (tag_of the_type x) → MaybeSpan.Absent ≡ second_of t f x
-no_second t f Fault.Clean k = refl
-no_second t f (Fault.Unmatched p) k = refl
-no_second t f (Fault.Expected p why) k = absurd (miss without_second 2 tt k)
-no_second t f (Fault.Unclosed why) k = absurd (miss without_second 3 tt k)
-no_second t f (Fault.RawName r) k = refl
-no_second t f (Fault.AfterDebug p) k = refl
-no_second t f (Fault.Underscore r) k = refl
-no_second t f (Fault.TooLarge r) k = refl
-no_second t f (Fault.DebugFirst p r) k = refl
-no_second t f (Fault.NoColon p) k = refl
-no_second t f (Fault.Equals p brace) k = absurd (miss without_second 10 tt k)
-no_second t f (Fault.Misplaced p) k = refl
-no_second t f (Fault.PlusFirst p) k = refl
-no_second t f (Fault.Field a b) k = refl
-no_second t f (Fault.TupleIndex a b) k = refl
-no_second t f (Fault.Comma p brace) k = absurd (miss without_second 15 tt k)
+pub no_second : (t : List ℕ) (f : Frame) (x : Fault) → ((p : TextPlace) (why : TextPlace) → x ≡ Fault.Expected p why → ⊥) → ((why : TextPlace) → x ≡ Fault.Unclosed why → ⊥) → ((p : TextPlace) (brace : TextPlace) → x ≡ Fault.Equals p brace → ⊥) → ((p : TextPlace) (brace : TextPlace) → x ≡ Fault.Comma p brace → ⊥) → MaybeSpan.Absent ≡ second_of t f x
+no_second t f Fault.Clean n0 n1 n2 n3 = refl
+no_second t f (Fault.Unmatched p) n0 n1 n2 n3 = refl
+no_second t f (Fault.Expected p why) n0 n1 n2 n3 = absurd (n0 p why refl)
+no_second t f (Fault.Unclosed why) n0 n1 n2 n3 = absurd (n1 why refl)
+no_second t f (Fault.RawName r) n0 n1 n2 n3 = refl
+no_second t f (Fault.AfterDebug p) n0 n1 n2 n3 = refl
+no_second t f (Fault.Underscore r) n0 n1 n2 n3 = refl
+no_second t f (Fault.TooLarge r) n0 n1 n2 n3 = refl
+no_second t f (Fault.DebugFirst p r) n0 n1 n2 n3 = refl
+no_second t f (Fault.NoColon p) n0 n1 n2 n3 = refl
+no_second t f (Fault.Equals p brace) n0 n1 n2 n3 = absurd (n2 p brace refl)
+no_second t f (Fault.Misplaced p) n0 n1 n2 n3 = refl
+no_second t f (Fault.PlusFirst p) n0 n1 n2 n3 = refl
+no_second t f (Fault.Field a b) n0 n1 n2 n3 = refl
+no_second t f (Fault.TupleIndex a b) n0 n1 n2 n3 = refl
+no_second t f (Fault.Comma p brace) n0 n1 n2 n3 = absurd (n3 p brace refl)
 
 -- all but 2, 5, 7, 8, 11 quote nothing
-abbrev without_quote : List ℕ
-without_quote = 0 ∷ 1 ∷ 3 ∷ 4 ∷ 6 ∷ 9 ∷ 10 ∷ 12 ∷ 13 ∷ 14 ∷ 15 ∷ []
-
-pub no_quote : (t : List ℕ) (x : Fault) → OneOf without_quote (tag_of the_type x) → MaybeRange.Absent ≡ quoted_of t x
-no_quote t Fault.Clean k = refl
-no_quote t (Fault.Unmatched p) k = refl
-no_quote t (Fault.Expected p why) k = absurd (miss without_quote 2 tt k)
-no_quote t (Fault.Unclosed why) k = refl
-no_quote t (Fault.RawName r) k = refl
-no_quote t (Fault.AfterDebug p) k = absurd (miss without_quote 5 tt k)
-no_quote t (Fault.Underscore r) k = refl
-no_quote t (Fault.TooLarge r) k = absurd (miss without_quote 7 tt k)
-no_quote t (Fault.DebugFirst p r) k = absurd (miss without_quote 8 tt k)
-no_quote t (Fault.NoColon p) k = refl
-no_quote t (Fault.Equals p brace) k = refl
-no_quote t (Fault.Misplaced p) k = absurd (miss without_quote 11 tt k)
-no_quote t (Fault.PlusFirst p) k = refl
-no_quote t (Fault.Field a b) k = refl
-no_quote t (Fault.TupleIndex a b) k = refl
-no_quote t (Fault.Comma p brace) k = refl
+pub no_quote : (t : List ℕ) (x : Fault) → ((p : TextPlace) (why : TextPlace) → x ≡ Fault.Expected p why → ⊥) → ((p : TextPlace) → x ≡ Fault.AfterDebug p → ⊥) → ((r : TextRange) → x ≡ Fault.TooLarge r → ⊥) → ((p : TextPlace) (r : TextRange) → x ≡ Fault.DebugFirst p r → ⊥) → ((p : TextPlace) → x ≡ Fault.Misplaced p → ⊥) → MaybeRange.Absent ≡ quoted_of t x
+no_quote t Fault.Clean n0 n1 n2 n3 n4 = refl
+no_quote t (Fault.Unmatched p) n0 n1 n2 n3 n4 = refl
+no_quote t (Fault.Expected p why) n0 n1 n2 n3 n4 = absurd (n0 p why refl)
+no_quote t (Fault.Unclosed why) n0 n1 n2 n3 n4 = refl
+no_quote t (Fault.RawName r) n0 n1 n2 n3 n4 = refl
+no_quote t (Fault.AfterDebug p) n0 n1 n2 n3 n4 = absurd (n1 p refl)
+no_quote t (Fault.Underscore r) n0 n1 n2 n3 n4 = refl
+no_quote t (Fault.TooLarge r) n0 n1 n2 n3 n4 = absurd (n2 r refl)
+no_quote t (Fault.DebugFirst p r) n0 n1 n2 n3 n4 = absurd (n3 p r refl)
+no_quote t (Fault.NoColon p) n0 n1 n2 n3 n4 = refl
+no_quote t (Fault.Equals p brace) n0 n1 n2 n3 n4 = refl
+no_quote t (Fault.Misplaced p) n0 n1 n2 n3 n4 = absurd (n4 p refl)
+no_quote t (Fault.PlusFirst p) n0 n1 n2 n3 n4 = refl
+no_quote t (Fault.Field a b) n0 n1 n2 n3 n4 = refl
+no_quote t (Fault.TupleIndex a b) n0 n1 n2 n3 n4 = refl
+no_quote t (Fault.Comma p brace) n0 n1 n2 n3 n4 = refl
 
 -- all but 4, 5, 9 have no suggestion
-abbrev without_suggestion : List ℕ
-without_suggestion = 0 ∷ 1 ∷ 2 ∷ 3 ∷ 6 ∷ 7 ∷ 8 ∷ 10 ∷ 11 ∷ 12 ∷ 13 ∷ 14 ∷ 15 ∷ []
-
-pub no_suggestion : (t : List ℕ) (f : Frame) (x : Fault) → OneOf without_suggestion (tag_of the_type x) → MaybeSpan.Absent ≡ suggestion_of t f x
-no_suggestion t f Fault.Clean k = refl
-no_suggestion t f (Fault.Unmatched p) k = refl
-no_suggestion t f (Fault.Expected p why) k = refl
-no_suggestion t f (Fault.Unclosed why) k = refl
-no_suggestion t f (Fault.RawName r) k = absurd (miss without_suggestion 4 tt k)
-no_suggestion t f (Fault.AfterDebug p) k = absurd (miss without_suggestion 5 tt k)
-no_suggestion t f (Fault.Underscore r) k = refl
-no_suggestion t f (Fault.TooLarge r) k = refl
-no_suggestion t f (Fault.DebugFirst p r) k = refl
-no_suggestion t f (Fault.NoColon p) k = absurd (miss without_suggestion 9 tt k)
-no_suggestion t f (Fault.Equals p brace) k = refl
-no_suggestion t f (Fault.Misplaced p) k = refl
-no_suggestion t f (Fault.PlusFirst p) k = refl
-no_suggestion t f (Fault.Field a b) k = refl
-no_suggestion t f (Fault.TupleIndex a b) k = refl
-no_suggestion t f (Fault.Comma p brace) k = refl
+pub no_suggestion : (t : List ℕ) (f : Frame) (x : Fault) → ((r : TextRange) → x ≡ Fault.RawName r → ⊥) → ((p : TextPlace) → x ≡ Fault.AfterDebug p → ⊥) → ((p : TextPlace) → x ≡ Fault.NoColon p → ⊥) → MaybeSpan.Absent ≡ suggestion_of t f x
+no_suggestion t f Fault.Clean n0 n1 n2 = refl
+no_suggestion t f (Fault.Unmatched p) n0 n1 n2 = refl
+no_suggestion t f (Fault.Expected p why) n0 n1 n2 = refl
+no_suggestion t f (Fault.Unclosed why) n0 n1 n2 = refl
+no_suggestion t f (Fault.RawName r) n0 n1 n2 = absurd (n0 r refl)
+no_suggestion t f (Fault.AfterDebug p) n0 n1 n2 = absurd (n1 p refl)
+no_suggestion t f (Fault.Underscore r) n0 n1 n2 = refl
+no_suggestion t f (Fault.TooLarge r) n0 n1 n2 = refl
+no_suggestion t f (Fault.DebugFirst p r) n0 n1 n2 = refl
+no_suggestion t f (Fault.NoColon p) n0 n1 n2 = absurd (n2 p refl)
+no_suggestion t f (Fault.Equals p brace) n0 n1 n2 = refl
+no_suggestion t f (Fault.Misplaced p) n0 n1 n2 = refl
+no_suggestion t f (Fault.PlusFirst p) n0 n1 n2 = refl
+no_suggestion t f (Fault.Field a b) n0 n1 n2 = refl
+no_suggestion t f (Fault.TupleIndex a b) n0 n1 n2 = refl
+no_suggestion t f (Fault.Comma p brace) n0 n1 n2 = refl

@@ -1,5 +1,4 @@
 -- `faults::first_wrong` meets its contract. A step with nothing wrong is not walked over. The invariant: the slots from the first to k are clean. The measure is what is left of 13.
-use Prim.Native.Nat.{◌-◌}
 use native.Mathlib.Omega.{arith}
 use mathlib.Core.Path.{refl, ap, sym, ◌∙◌}
 use borrow.Author.Tests.{not-true, not-false}

@@ -30,4 +30,4 @@ pub returns-in-Misplaced : goal.returns-in-Misplaced
 returns-in-Misplaced c = rw (c.in-Misplaced.is, ← c.character_at-in-Misplaced.ensures)
 
 pub returns-in_default : goal.returns-in_default
-returns-in_default c = no_quote c.args.text.now c.args.fault c.in-Expected.keys6
+returns-in_default c = let n = c.in_default in no_quote c.args.text.now c.args.fault n.not-Expected n.not-AfterDebug n.not-TooLarge n.not-DebugFirst n.not-Misplaced

@@ -27,5 +27,4 @@ pub returns-in-Comma : goal.returns-in-Comma
 returns-in-Comma c = rw (c.in-Comma.is, ← c.span_at-in-Comma.ensures)
 
 pub returns-in_default : goal.returns-in_default
-returns-in_default c =
-    no_second c.args.text.now c.args.frame c.args.fault c.in-Expected.keys5
+returns-in_default c = let n = c.in_default in no_second c.args.text.now c.args.frame c.args.fault n.not-Expected n.not-Unclosed n.not-Equals n.not-Comma

@@ -27,5 +27,4 @@ pub returns-in-NoColon : goal.returns-in-NoColon
 returns-in-NoColon c = rw (c.in-NoColon.is, ← c.span_at.ensures)
 
 pub returns-in_default : goal.returns-in_default
-returns-in_default c =
-    no_suggestion c.args.text.now c.args.frame c.args.fault c.in-RawName.keys4
+returns-in_default c = let n = c.in_default in no_suggestion c.args.text.now c.args.frame c.args.fault n.not-RawName n.not-AfterDebug n.not-NoColon
