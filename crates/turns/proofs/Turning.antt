@@ -60,13 +60,13 @@ module _ (t : List ℕ) (f : Frame) (m : Mode) (c : Cursor) where
     -- the last step has no piece
     pub pieces_over : onward c.state x ≡ Onward.Over → pieces_at t f m c ≡ []
     unfolding pieces_at gather
-    pieces_over g = rw (steps_over t f m c.state e c.left some g, over_piece _ x g)
+    pieces_over g = rw (steps_over t f m c.state e c.left some g, over_piece c.state x g)
 
     -- each other step has one, and then come those after it
     pub pieces_on : {a : State} → onward c.state x ≡ Onward.To a →
         pieces_at t f m c ≡ piece_of x ∷ pieces_at t f m (cursor_of a (c.left - 1) (c.pieces + 1))
     unfolding pieces_at gather
-    pieces_on g = rw (steps_on t f m c.state e c.left some g, on_piece _ x g)
+    pieces_on g = rw (steps_on t f m c.state e c.left some g, on_piece c.state x g)
 
     -- a run's cursor after a step is one that it has
     pub fresh_on : {a : State} → onward c.state x ≡ Onward.To a → Fresh c → Fresh (cursor_of a (c.left - 1) (c.pieces + 1))
