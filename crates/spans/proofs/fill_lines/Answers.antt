@@ -59,9 +59,6 @@ put_last-requires c =
     in
     going_room g (last_of a.frame c.put_step-run.result.line c.step_at-step.result) [] (sym (append-nil _)) (omega (arith, c.requires.1))
 
-pub shape_of-out-in-Over : goal.shape_of-out-in-Over
-shape_of-out-in-Over c = c.put_last.auto.1.1.1.0 ∙ c.put_step-run.auto.1.1.1.1.0 ∙ c.loop-left.invariant.0.same
-
 pub returns-in-Over : goal.returns-in-Over
 returns-in-Over c =
     let a = c.args in
@@ -92,9 +89,6 @@ loop-left-preserved c =
           l.invariant.0 c.put_step-run.ensures),
       kept_on a.text.now a.frame a.mode l.state step l.left c.loop-left-test.true on l.invariant.1,
     )
-
-pub shape_of-out : goal.shape_of-out
-shape_of-out c = c.loop-left.invariant.0.same
 
 pub returns : goal.returns
 returns c =

@@ -42,9 +42,6 @@ put_place-n-requires c =
 pub go_on-requires : goal.go_on-requires
 go_on-requires c = few_step _ _ _ _ (omega (arith, c.loop-left.invariant.1.next)) c.step_at-step.ensures
 
-pub shape_of-out-in-Over : goal.shape_of-out-in-Over
-shape_of-out-in-Over c = c.put_place-n.auto.1.1.1.0 ∙ c.loop-left.invariant.0.same
-
 pub returns-in-Over : goal.returns-in-Over
 unfolding gather
 returns-in-Over c =
@@ -72,9 +69,6 @@ loop-left-preserved c =
           c.put_place-n.ensures,
       kept_on a.text.now a.frame a.mode l.state step l.left c.loop-left-test.true on l.invariant.1,
     )
-
-pub shape_of-out : goal.shape_of-out
-shape_of-out c = c.loop-left.invariant.0.same
 
 pub returns : goal.returns
 unfolding gather

@@ -1,6 +1,6 @@
 -- `spans::put_part` meets its contract. The invariant: with the lines of the characters that are left the list is as it is to be,
 -- and the line after them starts where it is to. The measure is what is left of the part.
-use Prim.Native.Nat.{◌+◌, ◌-◌}
+use Prim.Native.Nat.{◌+◌}
 use native.Mathlib.Omega.{arith}
 use mathlib.Core.Path.{sym, ◌∙◌}
 use mathlib.Core.List.{[], ◌∷◌}
@@ -50,18 +50,12 @@ loop-i-preserved c =
     lining_on l.invariant (ch _ l.i _ ∷ []) (before c.args.part.end.0 (chars_from t (l.i + _)))
     (before_more t c.args.part.end.0 l.i c.loop-i-test.true seen) c.requires.1 c.put_char-on.ensures
 
-pub shape_of-out-in-End : goal.shape_of-out-in-End
-shape_of-out-in-End c = c.loop-i.invariant.going.same
-
 pub returns-in-End : goal.returns-in-End
 unfolding chars_in
 returns-in-End c =
     let a = c.args in
     let l = c.loop-i in
     lining_done l.invariant (before_end a.text.now a.part.end.0 l.i (sym c.peek.ensures ∙ c.in-End.is))
-
-pub shape_of-out : goal.shape_of-out
-shape_of-out c = c.loop-i.invariant.going.same
 
 pub returns : goal.returns
 unfolding chars_in

@@ -12,21 +12,19 @@ put_part-requires c = (c.requires.0, rw (c.in-Literal.is, append-nil) at c.requi
 pub put_part-on-requires : goal.put_part-on-requires
 unfolding gather
 put_part-on-requires c =
-    let a = c.args in
-    let r = c.step-in-Placeholder-1.given in (
+    let a = c.args in (
       c.requires.0,
-      join_first a.frame a.run a.out.now (chars_in a.text.now r.0.0.text)
-          (gather (chars_in a.text.now) (missing_text r.0.0.closing)) (rw r.1 at c.requires.1),
+      join_first a.frame a.run a.out.now (chars_in a.text.now c.in-Placeholder.read.text)
+          (gather (chars_in a.text.now) (missing_text c.in-Placeholder.read.closing)) (rw c.in-Placeholder.is at c.requires.1),
     )
 
 pub put_missing-requires : goal.put_missing-requires
 unfolding gather
 put_missing-requires c =
-    let a = c.args in
-    let r = c.step-in-Placeholder-1.given in (
+    let a = c.args in (
       c.requires.0,
-      join_second a.frame a.run a.out.now (chars_in a.text.now r.0.0.text)
-          (gather (chars_in a.text.now) (missing_text r.0.0.closing)) (rw r.1 at c.requires.1) c.put_part-on.ensures,
+      join_second a.frame a.run a.out.now (chars_in a.text.now c.in-Placeholder.read.text)
+          (gather (chars_in a.text.now) (missing_text c.in-Placeholder.read.closing)) (rw c.in-Placeholder.is at c.requires.1) c.put_part-on.ensures,
     )
 
 pub returns-in-End : goal.returns-in-End
@@ -45,8 +43,7 @@ pub returns-in-Placeholder : goal.returns-in-Placeholder
 unfolding gather
 returns-in-Placeholder c =
     let a = c.args in
-    let r = c.step-in-Placeholder-1.given in
-    rw r.1
-    (join a.frame a.run a.out.now (chars_in a.text.now r.0.0.text)
-    (gather (chars_in a.text.now) (missing_text r.0.0.closing)) (rw r.1 at c.requires.1) c.put_part-on.ensures
+    rw c.in-Placeholder.is
+    (join a.frame a.run a.out.now (chars_in a.text.now c.in-Placeholder.read.text)
+    (gather (chars_in a.text.now) (missing_text c.in-Placeholder.read.closing)) (rw c.in-Placeholder.is at c.requires.1) c.put_part-on.ensures
     c.put_missing.ensures)
