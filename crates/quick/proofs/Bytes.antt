@@ -7,7 +7,7 @@ use native.Mathlib.Omega.{arith}
 use borrow.Author.Tests.{eq-eqb, ne_eqb, lt-ltb, le-ltb, ltb-true, ltb-false}
 use lib.Dec.{eqb, ltb}
 use lib.ListN.{length, get_or, get_or-eq_default}
-use Rattle.utf8.specs.Choice.{pick, within}
+use Rattle.utf8.specs.Choice.{pick}
 use Rattle.utf8.specs.ChoiceLaws.{not_so, within_low, within_high}
 use Rattle.utf8.specs.Utf8.{peek_at}
 use Rattle.utf8.specs.Chars.{Ch, ch, chars_from, chars_of, take_while, run_end}

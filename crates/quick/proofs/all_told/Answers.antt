@@ -1,7 +1,7 @@
 -- `quick::all_told` meets its contract: where it says yes, each of its tests came out so.
 use mathlib.Core.Path.{sym, ◌∙◌}
 use mathlib.Core.Bool.{true≢false}
-use mathlib.Core.Logic.{⊎_elim}
+use Rattle.quick.proofs.all_told.Goals.{then-zero+else-byte-eq36, else-zero}
 use Rattle.quick.proofs.all_told.Goals as goal
 
 pub returns-then-byte-eq36 : goal.returns-then-byte-eq36
@@ -17,8 +17,10 @@ pub returns : goal.returns
 returns c y =
     record {
       flag =
-          ⊎_elim (λ w _ q. w.2.left (w.1.ensures ∙ q)) (λ w z. absurd (true≢false (sym z ∙ w.left)))
-          c.if-zero.branch;
+          elim c.if-zero.branch [
+            | then-zero+else-byte-eq36 w ↦ λ _ q. w.if-byte-eq36.false (w.byte.ensures ∙ q)
+            | else-zero w ↦ λ z. absurd (true≢false (sym z ∙ w.if-zero.false))
+          ];
       wide = c.if-width-eq9.false;
       precise = c.if-precision-eq9.false;
       typed = y;

@@ -1,6 +1,5 @@
 -- `quick::ascii_end` meets its contract. The invariant: the run of continuations from `i` ends where the run from `at`
 -- does, since each turn passes a continuation, and has as many characters more. The measure is what is left of the text.
-use Prim.Native.Nat.{◌-◌}
 use mathlib.Core.Path.{refl, sym, ◌∙◌}
 use native.Mathlib.Omega.{arith}
 use borrow.Author.Tests.{not-true, not-false}

@@ -1,6 +1,5 @@
 -- `quick::number` meets its contract. The invariant: the digits passed spell the value. The measure is what is left of four digits. A fifth
 -- digit is not told.
-use Prim.Native.Nat.{◌-◌}
 use mathlib.Core.Path.{sym, ◌∙◌, ap, refl}
 use native.Mathlib.Omega.{arith}
 use borrow.Author.Tests.{not-true, not-false}

@@ -16,11 +16,10 @@ returns-then-b-eq42 c =
     (precision_star (sym c.byte.ensures ∙ c.if-byte-ne46.false) (sym c.byte-b.ensures ∙ c.if-b-eq42.true))
 
 pub count-requires : goal.count-requires
-count-requires c =
-    (
-      room_past c.requires (sym c.byte.ensures ∙ c.if-byte-ne46.false) (omega arith),
-      ap is_digit (sym c.byte-b.ensures) ∙ sym c.is_digit.ensures ∙ c.if-is_digit.true,
-    )
+count-requires c = (
+  room_past c.requires (sym c.byte.ensures ∙ c.if-byte-ne46.false) (omega arith),
+  ap is_digit (sym c.byte-b.ensures) ∙ sym c.is_digit.ensures ∙ c.if-is_digit.true,
+)
 
 pub returns-then-is_digit : goal.returns-then-is_digit
 returns-then-is_digit c =

@@ -1,9 +1,9 @@
 -- `quick::type_at` meets its contract: a sign after which the spec ends, a word, or nothing. The word at `from` is the one that was found.
 use mathlib.Core.Path.{sym, ◌∙◌, ap}
-use mathlib.Core.Logic.{⊎_elim}
 use Rattle.quick.specs.PartsTold.{sign_byte}
 use Rattle.quick.proofs.Bytes.{room_past}
 use Rattle.quick.proofs.Parts.{sign_some, type_named}
+use Rattle.quick.proofs.type_at.Goals.{then-at-from, else-at-from}
 use Rattle.quick.proofs.type_at.Goals as goal
 
 pub any_sign_type-requires : goal.any_sign_type-requires
@@ -20,5 +20,8 @@ returns c =
     let p = c.requires in
     rw (c.word_type.ensures, e)
     (type_named (ap sign_byte (sym e) ∙ sym c.is_type_sign.ensures ∙ c.if-is_type_sign.false)
-    (⊎_elim (λ w. rw w.0.taken (w.1 ∙ p.1)) (λ w. w.2 ∙ w.1.ensures) c.if-at-from.branch)
+    (elim c.if-at-from.branch [
+      | then-at-from w ↦ rw w.if-at-from.true (w.end-is ∙ p.1)
+      | else-at-from w ↦ w.end-is ∙ w.word_end-end.ensures
+    ])
     p.0.within)

@@ -2,7 +2,6 @@
 -- where another letter follows, the word goes on from there.
 use borrow.Author.Tests.{not-true, not-false}
 use mathlib.Core.Path.{◌≡◌, sym, ◌∙◌, ap}
-use mathlib.Core.Logic.{⊎_elim}
 use mathlib.Core.Bool.{true≢false}
 use native.Mathlib.Omega.{arith}
 use Rattle.frame.specs.Places.{place}
@@ -11,6 +10,7 @@ use Rattle.scan.specs.ScanLaws.{word_on}
 use Rattle.frame.specs.declared.TextPlace.{TextPlace}
 use Rattle.scan.specs.AsciiWordLaws.{word_start, word_none, continue_stop}
 use Rattle.quick.proofs.Bytes.{word_anew, word_further, no_chars, start_chars}
+use Rattle.quick.proofs.word_at.Goals.{then-b-lt128+else-not-ascii_start+else-byte-lt128, else-b-lt128}
 use Rattle.quick.proofs.word_at.Goals as goal
 
 pub returns-then-not-ascii_start : goal.returns-then-not-ascii_start
@@ -37,9 +37,10 @@ returns c =
     let t = c.args.text.now in
     let at = c.args.at in
     let known : (word_from t (place at) c.if-b-lt128.known).0 ≡ (word_end t (place at)).0 =
-    ⊎_elim
-    (λ w. rw w.6 (word_further t at c.byte-b.ensures w.0.taken (sym w.1.ensures ∙ not-false _ w.2.left) w.3.ensures))
-    (λ w. word_anew t at w.1)
-    c.if-b-lt128.branch in
+    elim c.if-b-lt128.branch [
+      | then-b-lt128+else-not-ascii_start+else-byte-lt128 w ↦
+          rw w.known-is (word_further t at c.byte-b.ensures w.if-b-lt128.true (sym w.ascii_start.ensures ∙ w.if-not-ascii_start.false) w.ascii_end-known.ensures)
+      | else-b-lt128 w ↦ word_anew t at w.known-is
+    ] in
     let e = rw c.whole.ensures at (ap (λ (p : TextPlace). p.0) c.word_from-end.ensures) ∙ known in
     record { ends = e; on = rw e (word_on _ _); chars = λ y. absurd (true≢false (sym y)) }
