@@ -16,7 +16,7 @@ use Rattle.laws.specs.StepLaws.{steps_more, steps_over, steps_none, not_end}
 use Rattle.reading.specs.Faults.{faults_of}
 use Rattle.reading.specs.Lines.{chars_in, newlines}
 use Rattle.laws.specs.LineLaws.{by_test, newlines_append}
-use Rattle.reading.specs.Lists.{gather, pieces_of, pieces, closed_span, places_of, places, missing_text, texts_of, literal_chars, is_end, to_the_end, lines, counts_of}
+use Rattle.reading.specs.Lists.{gather, pieces_of, pieces, closed_span, places_of, places, missing_text, texts_of, literal_chars, is_end, to_the_end, counts_of}
 use Rattle.laws.specs.Counting.{piece_count, closed_count, place_count, closing_lines, line_count, step_counts, sum, Countable}
 use Rattle.laws.specs.ListLaws.{gather_one, errors_length, literal_more, plain_lines, lines_length}
 use Rattle.laws.specs.OrderLaws.{lines_plain}
