@@ -1,6 +1,6 @@
 -- Worked counts, each computed from the definitions: texts with and without errors, every kind, stars, a refused text, sums, and the bytes of
 -- lists. Rests on Totals and Season and on the reader's definitions, on no law.
-use Rattle.std.specs.Prelude.{◌≡◌, refl, List, [], ◌∷◌, ◌++◌, map, ℕ, ◌+◌, length, replicate}
+use Rattle.std.specs.Prelude.{◌≡◌, refl, List, [], ◌∷◌, ◌++◌, map, ℕ, length, replicate}
 use Rattle.std.proofs.Common.{ap, arith}
 use Prim.Native.String.{String}
 use Rattle.utf8.specs.Choice.{pick, within}
