@@ -10,7 +10,6 @@ use Rattle.reading.specs.Answers.{is_long, is_broken, mode_of, refusal, first_of
 use Rattle.reading.specs.Lists.{pieces, errors}
 use Rattle.laws.specs.AnswerLaws.{not_long}
 use Rattle.laws.specs.BrokenLaws.{broken_exactly}
-use Rattle.pen.specs.Pens.{over}
 use Rattle.pen.specs.PenLaws.{over_whole}
 use Rattle.plain.specs.Plainly as plainly
 use Rattle.plain.specs.Plainly.{Accepted}

@@ -13,7 +13,6 @@ use Rattle.utf8.specs.ChoiceLaws.{pick_elim}
 use Rattle.utf8.specs.Chars.{run_end}
 use Rattle.utf8.specs.CharLaws.{end_past, past_end, run_end_lem, byte_more, byte_stop}
 use Rattle.utf8.specs.declared.Seen.{Seen}
-use Rattle.utf8.specs.declared.Seen.TheVariants.{End}
 use Rattle.frame.specs.Places.{place, range_of}
 use Rattle.frame.specs.declared.TextPlace.{TextPlace}
 use Rattle.frame.specs.declared.TextRange.{TextRange}

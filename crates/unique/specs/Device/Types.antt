@@ -16,7 +16,7 @@ use Rattle.placeholder.specs.Types.{hex_type, is_hex_or_hash, debug_type, word_t
 use Rattle.placeholder.specs.declared.Hex.{Hex}
 use Rattle.placeholder.specs.declared.MaybeSpan.{MaybeSpan}
 use Rattle.placeholder.specs.declared.format.TypeRead.{TypeRead}
-use Rattle.grammar.specs.Grammar.{Letter, lower, upper, Typing, untyped, debug, hex}
+use Rattle.grammar.specs.Grammar.{Letter, lower, upper, Typing, untyped, debug}
 use Rattle.grammar.specs.Pieces.{size, bytes, bytes_at, present, letter_of, type_text, type_span, hex_of as hexRecord}
 use Rattle.unique.specs.Device.Runs.{case_b, take_w, drop_w, Stops}
 use Rattle.unique.specs.Device.Parser.{Got, got, ok_word, ok_debug, hex_of, typed_of, typing_of}
