@@ -1,7 +1,8 @@
 -- A list without one of its elements: a shift by one keeps it, and a record stored at the front then stands before it.
 use mathlib.Core.Path.{◌≡◌, refl, ap, ◌∙◌, sym}
 use mathlib.Core.List.{List, [], ◌∷◌, ◌++◌}
-use Prim.Native.Nat.{ℕ, zero, suc, ◌<◌}
+use Prim.Native.Nat.{ℕ, zero, suc, ◌<◌, ◌-◌}
+use native.Mathlib.Omega.{arith}
 use native.Mathlib.Nat.{not-suc-le-zero, le_of_suc-le-suc}
 use native.Mathlib.Numerals.{add-one}
 use lib.ListN.{length, take, drop, set, get_or}
@@ -20,6 +21,13 @@ module _ {X : Type 0} where
   moved (x ∷ []) j d h = absurd (not-suc-le-zero (le_of_suc-le-suc h))
   moved (x ∷ y ∷ xs) zero d h = refl
   moved (x ∷ y ∷ xs) (suc j) d h = ap (λ (r : List X). x ∷ r) (moved (y ∷ xs) j d (le_of_suc-le-suc h))
+
+  -- so the list keeps what it is without the element that moves
+  pub shifts : (l ys : List X) (i n : ℕ) (d : X) → 0 < i → i < length l → without l i ≡ without ys n → without (set l i (get_or l (i - 1) d)) (i - 1) ≡ without ys n
+  shifts l ys zero n d p h e = absurd (omega arith)
+  shifts l ys (suc j) n d p h e =
+      let k : suc j - 1 ≡ j = omega arith in
+      rw k (moved l j d h ∙ e)
 
   front : (l : List X) (e : X) → 0 < length l → set l 0 e ≡ e ∷ without l 0
   front [] e h = absurd (not-suc-le-zero h)
