@@ -52,7 +52,7 @@ pub ends_here : (bytes : List ℕ) (at n : ℕ) → at ≤ length bytes → 2 �
 ends_here bytes at n inside some enough few e =
     inr (record {
       size = n;
-      is_end_lem = refl;
+      is_end = refl;
       inside = omega (arith, inside, some, enough);
       few = few;
       said = e ∙ sym (take_two bytes at (omega (arith, inside, some)));

@@ -7,7 +7,7 @@ use Rattle.seasons.specs.Totals.{sums}
 -- a text that stands at a place, behind its length, and ends at another
 pub record Stands (bytes : List ℕ) (at end : ℕ) : Type 0 where
   pub size : ℕ
-  pub is_end_lem : end ≡ at + 2 + size
+  pub is_end : end ≡ at + 2 + size
   pub inside : end ≤ length bytes
   pub few : size ≤ 65535
   pub said : two_bytes size ≡ take 2 (drop at bytes)
