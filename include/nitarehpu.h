@@ -9,7 +9,8 @@
  *   - nothing that a call writes overlaps anything else that it is handed: no list, output, state or buffer another one, the text, the snippet or a part;
  *     what is only read may be the same bytes;
  *   - pieces and errors are aligned for uint32_t; places, lines, answer and state for size_t.
- * Every other argument gets a defined answer. The library is for x86-64 Linux.
+ * Every other argument gets a defined answer. The library is for x86-64 Linux, on a processor of the second level (x86-64-v2, which nearly every one is); it does not
+ * look whether it is on one.
  */
 #ifndef NITAREHPU_H
 #define NITAREHPU_H

@@ -1,5 +1,5 @@
 //! Links the proved library from the folder that NITAREHPU_LIBRARY names: libexport.a as `tools/native export verdicts plains arrivals` makes it, with all calls; else from where
-//! `rt staticlib` puts its archives, libexport.a, libverdicts.a, libplains.a and libarrivals.a.
+//! `tools/prove --library` puts its archives, libexport.a, libverdicts.a, libplains.a and libarrivals.a.
 
 use std::path::Path;
 

@@ -57,7 +57,7 @@ fn definition_file(table: &Table) -> String {
     format!("crates/letters/specs/{}.antt", table.file)
 }
 
-/// The three tables as constants of the crate, a number to a line: the layout that `rt fmt` keeps.
+/// The three tables as constants of the crate, in the layout that `rt fmt` keeps: as many numbers to a line as 99 columns hold.
 fn constants(tables: &[Table]) -> String {
     let mut text = String::from(
         "// The tables of characters, as flat constants. The definitions of the same numbers are in specs/;\n\
@@ -78,8 +78,24 @@ fn constant(part: &Part) -> String {
         "pub const {}: [u32; {}] = [\n{}];\n",
         part.name,
         part.numbers.len(),
-        lines(&part.numbers, 1, |n| format!("0x{n:X},"))
+        filled(&part.numbers)
     )
+}
+
+/// Indented lines of numbers, each as long as 99 columns allow, where `rt fmt` breaks them.
+fn filled(numbers: &[u32]) -> String {
+    let mut text = String::new();
+    let mut line = String::from("   ");
+    for number in numbers {
+        let item = format!(" 0x{number:X},");
+        if line.len() + item.len() > 99 {
+            text += &line;
+            text.push('\n');
+            line = String::from("   ");
+        }
+        line += &item;
+    }
+    text + &line + "\n"
 }
 
 /// One table as a list that proofs can compute with.
@@ -87,8 +103,7 @@ fn definition(table: &Table) -> String {
     format!(
         "-- {}\n\
          -- Written by `oracle/tables` with the constants of src/tables.rt, which have the same numbers.\n\
-         use Prim.Native.Nat.{{ℕ}}\n\
-         use mathlib.Core.List.{{List, [], _∷_}}\n\
+         use Rattle.std.specs.Prelude.{{ℕ, List, [], ◌∷◌}}\n\
          \n\
          unfoldable pub {word} : List ℕ\n\
          {word} =\n\
