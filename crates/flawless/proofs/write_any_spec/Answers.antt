@@ -11,7 +11,7 @@ pub overflow_add-k : goal.overflow_add-k
 overflow_add-k c = omega (arith, c.requires.2, c.well_formed)
 
 pub put4-requires : goal.put4-requires
-put4-requires c = omega (arith, c.requires.2, c.out-1.given)
+put4-requires c = omega (arith, c.requires.2, c.put_told_fill.auto.out)
 
 pub word_at-word-requires : goal.word_at-word-requires
 word_at-word-requires c =
@@ -38,7 +38,7 @@ pub overflow_add-k-2 : goal.overflow_add-k-2
 overflow_add-k-2 c = omega (arith, c.requires.2, c.well_formed)
 
 pub put_told_count-requires : goal.put_told_count-requires
-put_told_count-requires c = (c.requires.0, omega (arith, c.requires.2, c.out-1.given, c.out-2-1.given))
+put_told_count-requires c = (c.requires.0, omega (arith, c.requires.2, c.put_told_fill.auto.out, c.put4.auto.out))
 
 pub precision-precision-requires : goal.precision-precision-requires
 precision-precision-requires c = record { within = c.width-width.ensures.inside; small = c.requires.1.small }
@@ -52,14 +52,14 @@ returns-then-precision-gt1 c =
       s.1,
       put_left n.0
           (spoilt_then (marks_spoilt a.text.now a.frame a.at _ _ refl a.out.now a.k (omega (arith, c.requires.2)) c.put_told_fill.ensures c.put4.ensures) (omega arith) (omega arith)
-          c.put_told_count.ensures.spoilt (omega arith) (omega arith) (c.out-2-1.given ∙ c.out-1.given)),
+          c.put_told_count.ensures.spoilt (omega arith) (omega arith) (c.put4.auto.out ∙ c.put_told_fill.auto.out)),
     )
 
 pub overflow_add-k-3 : goal.overflow_add-k-3
 overflow_add-k-3 c = omega (arith, c.requires.2, c.well_formed)
 
 pub put_told_count-requires-2 : goal.put_told_count-requires-2
-put_told_count-requires-2 c = (c.requires.0, omega (arith, c.requires.2, c.out-1.given, c.out-2-1.given, c.out-3-1.given))
+put_told_count-requires-2 c = (c.requires.0, omega (arith, c.requires.2, c.put_told_fill.auto.out, c.put4.auto.out, c.put_told_count.auto.out))
 
 pub type_at-typed-requires : goal.type_at-typed-requires
 type_at-typed-requires c = (record { within = c.precision-precision.ensures.inside; small = c.requires.1.small }, c.word_at-word.ensures.ends)
@@ -68,7 +68,7 @@ pub overflow_add-k-4 : goal.overflow_add-k-4
 overflow_add-k-4 c = omega (arith, c.requires.2, c.well_formed)
 
 pub put_told_type-requires : goal.put_told_type-requires
-put_told_type-requires c = (c.requires.0, omega (arith, c.requires.2, c.out-1.given, c.out-2-1.given, c.out-3-1.given, c.out-4-1.given))
+put_told_type-requires c = (c.requires.0, omega (arith, c.requires.2, c.put_told_fill.auto.out, c.put4.auto.out, c.put_told_count.auto.out, c.put_told_count-2.auto.out))
 
 pub given_back-requires : goal.given_back-requires
 given_back-requires c = c.word_at-word.ensures
@@ -87,7 +87,7 @@ returns c =
           c.put_told_fill.ensures
           (rw (c.align_word.ensures, c.sign_word.ensures, c.bit.ensures, c.bit-2.ensures) at c.put4.ensures)
           (put_count a.text.now a.frame _ _ a.next _ (λ e. omega (arith, wide, e)) c.put_told_count.ensures) (put_width a.text.now a.frame _ a.next _ (λ e. omega (arith, precise, e)) (put_count a.text.now a.frame _ _ a.next _ (λ e. omega (arith, precise, e)) c.put_told_count-2.ensures)) c.put_told_type.ensures
-          (c.out-2-1.given ∙ c.out-1.given)
-          (c.out-3-1.given ∙ c.out-2-1.given ∙ c.out-1.given)
-          (c.out-4-1.given ∙ c.out-3-1.given ∙ c.out-2-1.given ∙ c.out-1.given),
+          (c.put4.auto.out ∙ c.put_told_fill.auto.out)
+          (c.put_told_count.auto.out ∙ c.put4.auto.out ∙ c.put_told_fill.auto.out)
+          (c.put_told_count-2.auto.out ∙ c.put_told_count.auto.out ∙ c.put4.auto.out ∙ c.put_told_fill.auto.out),
     )

@@ -23,7 +23,7 @@ put_told_head-requires c =
     let p = c.requires in
     let w = c.write_spec-spec.ensures in
     let y = not-false _ c.if-not-spec.false in
-    (p.0, told_sound _ _ _ (spec_tells p.3 p.4 p.5 y w.1 p.2 w.0) refl, p.6, omega (arith, p.8, c.out-1.given))
+    (p.0, told_sound _ _ _ (spec_tells p.3 p.4 p.5 y w.1 p.2 w.0) refl, p.6, omega (arith, p.8, c.write_spec-spec.auto.out))
 
 pub returns : goal.returns
 returns c =
