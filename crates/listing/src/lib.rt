@@ -1,6 +1,10 @@
 // The full and the short listing of a call: each record a line. Every function writes behind what its writer holds; a program hands over a writer with a buffer.
 #![tactic(auto)]
 
+ghost use Rattle.std.specs.Prelude.{[], ◌∷◌, ◌++◌, OnOk, codes, decimal};
+ghost use Rattle.std.specs.Io.KnownBytes.{Keeps};
+ghost use Rattle.listing.specs.Shapes.{Wrote, shaped};
+
 use frame::{Span, TextRange};
 use placeholder::{Align, Argument, Fill, Hex, MaybeSpan, Place, Sign, Spec};
 use reading::{ErrorRecord, MaybeRange, Piece};
@@ -9,27 +13,37 @@ use std::io;
 use std::io::Write;
 
 // One byte.
-pub fn byte<W: Write>(out: &mut W, b: u8) -> io::Result<()> {
+pub fn byte<W: Write>(out: &mut W, b: u8) -> io::Result<()>
+    ensures { Wrote result (W.contents out.old) (W.contents out.new) (b ∷ []) }
+{
     out.write_all(&[b])
 }
 
 // Words as they stand.
-pub fn words<W: Write>(out: &mut W, text: &[u8]) -> io::Result<()> {
+pub fn words<W: Write>(out: &mut W, text: &[u8]) -> io::Result<()>
+    ensures { Wrote result (W.contents out.old) (W.contents out.new) text.now }
+{
     out.write_all(text)
 }
 
 // A number in decimal digits.
-pub fn number<W: Write>(out: &mut W, value: usize) -> io::Result<()> {
+pub fn number<W: Write>(out: &mut W, value: usize) -> io::Result<()>
+    ensures { Wrote result (W.contents out.old) (W.contents out.new) (decimal value) }
+{
     write!(out, "{value}")
 }
 
 // What is left in the writer's buffer.
-pub fn flush<W: Write>(out: &mut W) -> io::Result<()> {
+pub fn flush<W: Write>(out: &mut W) -> io::Result<()>
+    ensures { OnOk result (Keeps (W.contents out.old) (W.contents out.new)) }
+{
     out.flush()
 }
 
 // A line, or a part of one, by its shape: the first `#` in it stands for the first number, every later one for the second.
-pub fn form<W: Write>(out: &mut W, shape: &[u8], first: usize, second: usize) -> io::Result<()> {
+pub fn form<W: Write>(out: &mut W, shape: &[u8], first: usize, second: usize) -> io::Result<()>
+    ensures { Wrote result (W.contents out.old) (W.contents out.new) (shaped shape.now first second) }
+{
     let mut next = first;
     for b in shape {
         if *b == b'#' {
@@ -43,7 +57,9 @@ pub fn form<W: Write>(out: &mut W, shape: &[u8], first: usize, second: usize) ->
 }
 
 // A word, then a number.
-fn labelled<W: Write>(out: &mut W, label: &[u8], value: usize) -> io::Result<()> {
+fn labelled<W: Write>(out: &mut W, label: &[u8], value: usize) -> io::Result<()>
+    ensures { Wrote result (W.contents out.old) (W.contents out.new) (label.now ++ decimal value) }
+{
     words(out, label)?;
     number(out, value)
 }
@@ -196,7 +212,9 @@ fn placed<W: Write>(out: &mut W, bytes: TextRange, at: Place) -> io::Result<()> 
     place(out, at)
 }
 
-fn literal<W: Write>(out: &mut W, r: TextRange) -> io::Result<()> {
+fn literal<W: Write>(out: &mut W, r: TextRange) -> io::Result<()>
+    ensures { Wrote result (W.contents out.old) (W.contents out.new) (shaped (codes "lit # #\n") r.start.0 r.end.0) }
+{
     form(out, b"lit # #\n", r.start.0, r.end.0)
 }
 
@@ -233,24 +251,32 @@ pub fn error<W: Write>(out: &mut W, e: ErrorRecord) -> io::Result<()> {
 }
 
 // A line of an argument place or a line span: its label, start and end.
-pub fn pair_line<W: Write>(out: &mut W, label: &[u8], start: usize, end: usize) -> io::Result<()> {
+pub fn pair_line<W: Write>(out: &mut W, label: &[u8], start: usize, end: usize) -> io::Result<()>
+    ensures { Wrote result (W.contents out.old) (W.contents out.new) (label.now ++ shaped (codes " #..#\n") start end) }
+{
     words(out, label)?;
     form(out, b" #..#\n", start, end)
 }
 
 // An error record's line in the short listing: its kind, its span, and how many pieces were listed before it.
-pub fn short_error<W: Write>(out: &mut W, e: ErrorRecord) -> io::Result<()> {
+pub fn short_error<W: Write>(out: &mut W, e: ErrorRecord) -> io::Result<()>
+    ensures { Wrote result (W.contents out.old) (W.contents out.new) (shaped (codes "# # ") e.kind e.span.start.0 ++ shaped (codes "# #\n") e.span.end.0 e.piece) }
+{
     form(out, b"# # ", e.kind as usize, e.span.start.0)?;
     form(out, b"# #\n", e.span.end.0, e.piece)
 }
 
 // A span's line in the short listing.
-pub fn short_pair<W: Write>(out: &mut W, start: usize, end: usize) -> io::Result<()> {
+pub fn short_pair<W: Write>(out: &mut W, start: usize, end: usize) -> io::Result<()>
+    ensures { Wrote result (W.contents out.old) (W.contents out.new) (shaped (codes "# #\n") start end) }
+{
     form(out, b"# #\n", start, end)
 }
 
 // A word, a number and the line's end.
-pub fn heading<W: Write>(out: &mut W, label: &[u8], value: usize) -> io::Result<()> {
+pub fn heading<W: Write>(out: &mut W, label: &[u8], value: usize) -> io::Result<()>
+    ensures { Wrote result (W.contents out.old) (W.contents out.new) (label.now ++ (decimal value ++ 10 ∷ [])) }
+{
     words(out, label)?;
     number(out, value)?;
     byte(out, b'\n')
