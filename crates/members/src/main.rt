@@ -44,16 +44,12 @@ fn piece_at(text: &[u8], frame: Frame, k: usize) -> PieceFound
 {
     let start = turns::first_cursor(text);
     let mut turn = turns::next_piece(text, frame, Mode::Format, start);
-    let mut i = 0;
-    while i < k {
-        let cursor = turn.cursor;
-        turn = turns::next_piece(text, frame, Mode::Format, cursor);
-        i += 1;
+    for _ in 0..k {
+        turn = turns::next_piece(text, frame, Mode::Format, turn.cursor);
     }
-    let piece = turn.piece;
     PieceFound {
         there: turn.more,
-        range: range_of(piece),
+        range: range_of(turn.piece),
     }
 }
 
