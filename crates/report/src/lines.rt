@@ -1,10 +1,15 @@
 // The lines of each list. In full every field of a record stands in its line; in short each list stands after its count.
+ghost use Rattle.std.specs.Prelude.{◌++◌, codes};
+ghost use Rattle.listing.specs.Shapes.{Wrote, shaped};
+
 use reading::{Answer, Counts, ErrorRecord, Piece};
 use std::io;
 use std::io::Write;
 
 // `answer`, the number, the place, the four counts, the arguments and the moves.
-pub fn answer_line<W: Write>(out: &mut W, answer: Answer) -> io::Result<()> {
+pub fn answer_line<W: Write>(out: &mut W, answer: Answer) -> io::Result<()>
+    ensures { Wrote result (W.contents out.old) (W.contents out.new) (shaped (codes "answer # #") answer.number answer.place ++ (shaped (codes " # #") answer.counts.pieces answer.counts.errors ++ (shaped (codes " # #") answer.counts.places answer.counts.lines ++ shaped (codes " arguments # moves #\n") answer.arguments answer.moves))) }
+{
     listing::form(out, b"answer # #", answer.number as usize, answer.place)?;
     four_counts(out, answer.counts)?;
     listing::form(
@@ -16,13 +21,17 @@ pub fn answer_line<W: Write>(out: &mut W, answer: Answer) -> io::Result<()> {
 }
 
 // The counts of the four lists.
-fn four_counts<W: Write>(out: &mut W, counts: Counts) -> io::Result<()> {
+fn four_counts<W: Write>(out: &mut W, counts: Counts) -> io::Result<()>
+    ensures { Wrote result (W.contents out.old) (W.contents out.new) (shaped (codes " # #") counts.pieces counts.errors ++ shaped (codes " # #") counts.places counts.lines) }
+{
     listing::form(out, b" # #", counts.pieces, counts.errors)?;
     listing::form(out, b" # #", counts.places, counts.lines)
 }
 
 // A refusal in short: `answer`, its number and its place.
-pub fn refusal<W: Write>(out: &mut W, answer: Answer) -> io::Result<()> {
+pub fn refusal<W: Write>(out: &mut W, answer: Answer) -> io::Result<()>
+    ensures { Wrote result (W.contents out.old) (W.contents out.new) (shaped (codes "answer # #\n") answer.number answer.place) }
+{
     listing::form(out, b"answer # #\n", answer.number as usize, answer.place)
 }
 
