@@ -3,13 +3,18 @@
 // why, and standard output stays empty.
 #![tactic(auto)]
 
+ghost use Rattle.std.specs.Prelude.{◌≡◌, ◌≤◌, length, take, IfOk};
+ghost use Rattle.std.specs.Io.{ReadsAtMost};
 ghost use Rattle.frame.specs.Bounds.{Small};
-ghost use Rattle.io.specs.Counts.{IsPrefixLen};
 
 use desk::{equal, say};
 use frame::{Frame, Mode, TextRange};
-use libc::STDOUT_FILENO;
 use reading::{Hashes, Piece, Request};
+use std::env::Env;
+use std::fs::File;
+use std::io;
+use std::io::Write;
+use std::rt::Files;
 use turns::PieceTurn;
 
 // What is compared of a turn: whether it has a piece, of which sort, and its bytes.
@@ -35,8 +40,8 @@ struct Taken {
     length: usize,
 }
 
-fn put(words: &[u8]) {
-    io::write_all(STDOUT_FILENO, words);
+fn put<W: Write>(out: &mut W, words: &[u8]) -> io::Result<()> {
+    out.write_all(words)
 }
 
 fn seen_in(turn: PieceTurn) -> PieceSeen {
@@ -101,28 +106,26 @@ fn first_apart(one: &[u8], f: Frame, two: &[u8], g: Frame, mode: Mode) -> Apart
 }
 
 // A piece as it is written, or that there is none.
-fn put_piece(text: &[u8], piece: PieceSeen) {
+fn put_piece<W: Write>(out: &mut W, text: &[u8], piece: PieceSeen) -> io::Result<()> {
     if !piece.more {
-        put(b"no more");
-        return;
+        return put(out, b"no more");
     }
-    put(b"`");
-    put(steps::text::literal_text(text, piece.range));
-    put(b"`");
+    put(out, b"`")?;
+    put(out, steps::text::literal_text(text, piece.range))?;
+    put(out, b"`")
 }
 
-fn put_apart(one: &[u8], two: &[u8], at: Apart) {
-    put(b"differ at piece ");
-    io::print_decimal(STDOUT_FILENO, at.piece as u64);
-    put(b": ");
-    put_piece(one, at.one);
-    put(b" and ");
-    put_piece(two, at.two);
-    put(b"\n");
+fn put_apart<W: Write>(out: &mut W, one: &[u8], two: &[u8], at: Apart) -> io::Result<()> {
+    let piece = at.piece;
+    write!(out, "differ at piece {piece}: ")?;
+    put_piece(out, one, at.one)?;
+    put(out, b" and ")?;
+    put_piece(out, two, at.two)?;
+    put(out, b"\n")
 }
 
 // Where two plain forms part.
-fn put_parting(one: &[u8], two: &[u8], mode: u8) {
+fn put_parting<W: Write>(out: &mut W, one: &[u8], two: &[u8], mode: u8) -> io::Result<()> {
     let request = Request {
         mode,
         style: Hashes::Plain,
@@ -131,97 +134,131 @@ fn put_parting(one: &[u8], two: &[u8], mode: u8) {
     };
     let first = answer::decide::opened(one, b"", request);
     let second = answer::decide::opened(two, b"", request);
-    let grammar = first.mode;
     if first.answer.number != 0 {
-        return;
+        return Ok(());
     }
     if second.answer.number != 0 {
-        return;
+        return Ok(());
     }
     put_apart(
+        out,
         one,
         two,
-        first_apart(one, first.frame, two, second.frame, grammar),
-    );
+        first_apart(one, first.frame, two, second.frame, first.mode),
+    )
 }
 
 // Whether two plain forms are the same, or where they part.
-fn put_likeness(one: &[u8], two: &[u8], mode: u8) {
+fn put_likeness<W: Write>(out: &mut W, one: &[u8], two: &[u8], mode: u8) -> io::Result<()> {
     if equal(one, two) {
-        put(b"the same\n");
-        return;
+        return put(out, b"the same\n");
     }
-    put_parting(one, two, mode);
+    put_parting(out, one, two, mode)
 }
 
 // Tidies two texts and says whether their plain forms are the same.
-fn compare(one: &[u8], two: &[u8], mode: u8, first: &mut [u8], second: &mut [u8]) {
-    let told = tidies::tidy(one, mode, &mut *first);
+fn compare<W: Write, E: Write>(
+    out: &mut W,
+    err: &mut E,
+    one: &[u8],
+    two: &[u8],
+    mode: u8,
+    first: &mut [u8],
+    second: &mut [u8],
+) -> io::Result<()> {
+    let told = tidies::tidy(one, mode, first);
     if told.number != 0 {
-        say(b"the first has no plain form: ");
-        desk::say_refused(one, mode, told);
-        return;
+        say(err, b"the first has no plain form: ")?;
+        return desk::say_refused(err, one, mode, told);
     }
-    let other = tidies::tidy(two, mode, &mut *second);
+    let other = tidies::tidy(two, mode, second);
     if other.number != 0 {
-        say(b"the second has no plain form: ");
-        desk::say_refused(two, mode, other);
-        return;
+        say(err, b"the second has no plain form: ")?;
+        return desk::say_refused(err, two, mode, other);
     }
-    let n = told.bytes;
-    let k = other.bytes;
-    put_likeness(&first[..n], &second[..k], mode);
+    put_likeness(out, &first[..told.bytes], &second[..other.bytes], mode)
 }
 
-// The file that an argument names, as far as it is looked at.
-fn take(i: usize, text: &mut [u8]) -> Taken
-    ensures { IsPrefixLen result.length text.new }
+// Reads the file of that name, as far as the text has room.
+fn read_file<R: Files>(rt: &R, name: &[u8], text: &mut [u8]) -> io::Result<usize>
+    ensures { ReadsAtMost result text.new }
 {
-    let mut path = io::buffer();
-    let length = os::arg(i, &mut path);
-    if os::errno() != 0 {
-        say(b"alike ONE TWO [MODE]: two files, and `format`, `asm` or `diagnostic`\n");
-        return Taken {
-            there: false,
-            length: 0,
-        };
-    }
-    let file = os::open_read(&path[..length]);
-    if file < 0 {
-        os::fail(&path[..length]);
-        return Taken {
-            there: false,
-            length: 0,
-        };
-    }
-    let length = io::read_full(file, text);
-    libc::close(file);
-    Taken {
-        there: true,
-        length,
+    match str::from_utf8(name) {
+        Ok(name) => {
+            let mut file = File::open(rt, name)?;
+            intake::read_full(&mut file, text)
+        }
+        Err(_) => Err(io::Error::new(
+            io::ErrorKind::InvalidInput,
+            "a file's name that is not UTF-8",
+        )),
     }
 }
 
-fn main() {
-    let mode = desk::mode_asked(3);
+// The file that an argument names, as far as it is looked at. A file that cannot be opened or read is said on standard error.
+fn take<R: Env + Files, E: Write>(
+    rt: &R,
+    err: &mut E,
+    i: usize,
+    text: &mut [u8],
+) -> io::Result<Taken>
+    ensures { IfOk result (λ t. (t.length ≤ length text.new) × (t.length ≡ length (take t.length text.new))) }
+{
+    let none = Taken {
+        there: false,
+        length: 0,
+    };
+    let mut path = [0u8; 4096];
+    match rt.arg(i, &mut path) {
+        Ok(length) => {
+            match read_file(rt, &path[..length], text) {
+                Ok(length) => Ok(Taken {
+                    there: true,
+                    length,
+                }),
+                Err(e) => {
+                    say(err, &path[..length])?;
+                    writeln!(err, ": {e}")?;
+                    Ok(none)
+                }
+            }
+        }
+        Err(_) => {
+            say(
+                err,
+                b"alike ONE TWO [MODE]: two files, and `format`, `asm` or `diagnostic`\n",
+            )?;
+            Ok(none)
+        }
+    }
+}
+
+fn main(rt: HostRuntime) -> io::Result<()> {
+    let mut err = rt.stderr();
+    let mode = desk::mode_asked(&rt, 3);
     if 2 < mode {
-        say(b"the mode is `format`, `asm` or `diagnostic`\n");
-        return;
+        return say(&mut err, b"the mode is `format`, `asm` or `diagnostic`\n");
     }
     // One byte more than the longest text that is read: a longer file is read far enough to be refused as 3.
-    let mut one = io::large_buffer();
-    let mut two = io::large_buffer();
-    let a = take(1, &mut one);
+    let mut one = [0u8; 65536];
+    let mut two = [0u8; 65536];
+    let a = take(&rt, &mut err, 1, &mut one)?;
     if !a.there {
-        return;
+        return Ok(());
     }
-    let b = take(2, &mut two);
+    let b = take(&rt, &mut err, 2, &mut two)?;
     if !b.there {
-        return;
+        return Ok(());
     }
-    let n = a.length;
-    let k = b.length;
-    let mut first = io::large_buffer();
-    let mut second = io::large_buffer();
-    compare(&one[..n], &two[..k], mode, &mut first, &mut second);
+    let mut first = [0u8; 65536];
+    let mut second = [0u8; 65536];
+    compare(
+        &mut rt.stdout(),
+        &mut err,
+        &one[..a.length],
+        &two[..b.length],
+        mode,
+        &mut first,
+        &mut second,
+    )
 }

@@ -2,13 +2,14 @@
 // Each list counts as one of 256 records; a refusal writes only its number and its place.
 #![tactic(auto)]
 
-use libc::STDIN_FILENO;
 use reading::{Hashes, Request, Rooms};
+use std::io;
+use std::io::BufWriter;
 
-fn main() {
+fn main(rt: HostRuntime) -> io::Result<()> {
     // One byte more than the longest text that is read: a longer input is read far enough to be refused as 3.
-    let mut text = io::large_buffer();
-    let length = io::read_full(STDIN_FILENO, &mut text);
+    let mut text = [0u8; 65536];
+    let length = intake::read_full(&mut rt.stdin(), &mut text)?;
     let request = Request {
         mode: 0,
         style: Hashes::Plain,
@@ -23,12 +24,11 @@ fn main() {
     };
     let decision = answer::decide::decide(&text[..length], b"", request, rooms);
     let answer = decision.answer;
-    let mut out = io::large_buffer();
+    let mut out = BufWriter::with_capacity(rt.alloc(), 65536, rt.stdout())?;
     if answer.number == 0 {
-        let n = report::short(&mut out, 0, &text[..length], b"", request);
-        listing::flush(&out, n);
-        return;
+        report::short(&mut out, &text[..length], b"", request)?;
+    } else {
+        report::lines::refusal(&mut out, answer)?;
     }
-    let n = report::lines::refusal(&mut out, 0, answer);
-    listing::flush(&out, n);
+    listing::flush(&mut out)
 }

@@ -3,109 +3,97 @@
 #![tactic(auto)]
 
 ghost use Rattle.std.specs.Prelude.{◌≤◌};
-ghost use Rattle.io.specs.Counts.{IsPrefixLen};
+ghost use Rattle.std.specs.Io.{ReadsAtMost};
 
-use libc::STDIN_FILENO;
 use reading::{Hashes, Request, Rooms};
+use std::io;
+use std::io::{BufWriter, Read, Write};
 
 // More cases than any stream has. A proved loop has to end, and nothing says that a stream does.
 const MOST: usize = 0xFFFFFFFFFFFF;
 
-// How much of the buffer is used, and whether the stream goes on.
-#[derive(Clone, Copy)]
-struct Turn {
-    used: usize,
-    more: bool,
-}
-
-fn main() {
+fn main(rt: HostRuntime) -> io::Result<()> {
     // The longest snippet and the longest text of a case.
     let mut snippet = [0u8; 66560];
     let mut text = [0u8; 66560];
-    let mut out = io::large_buffer();
-    let used = every_case(&mut out, &mut snippet, &mut text);
-    listing::flush(&out, used);
+    let mut out = BufWriter::with_capacity(rt.alloc(), 65536, rt.stdout())?;
+    every_case(&mut rt.stdin(), &mut out, &mut snippet, &mut text)?;
+    listing::flush(&mut out)
 }
 
 // Lists the cases of the stream, counted from 0.
-fn every_case(out: &mut [u8], snippet: &mut [u8], text: &mut [u8]) -> usize {
-    let mut used = 0;
-    let mut k = 0;
-    while k < MOST {
-        let turn = next_case(out, used, k, snippet, text);
-        used = turn.used;
-        if !turn.more {
-            return used;
+fn every_case<R: Read, W: Write>(
+    input: &mut R,
+    out: &mut W,
+    snippet: &mut [u8],
+    text: &mut [u8],
+) -> io::Result<()> {
+    for k in 0..MOST {
+        if !next_case(input, out, k, snippet, text)? {
+            break;
         }
-        k += 1;
     }
-    used
+    Ok(())
 }
 
-// Reads a case's head. The stream may end before it.
-fn next_case(out: &mut [u8], used: usize, k: usize, snippet: &mut [u8], text: &mut [u8]) -> Turn {
+// Reads a case's head, and says whether the stream goes on. It may end before the head.
+fn next_case<R: Read, W: Write>(
+    input: &mut R,
+    out: &mut W,
+    k: usize,
+    snippet: &mut [u8],
+    text: &mut [u8],
+) -> io::Result<bool> {
     let mut head = [0u8; 20];
-    let got = io::read_full(STDIN_FILENO, &mut head);
+    let got = intake::read_full(input, &mut head)?;
     if got == 0 {
-        return Turn { used, more: false };
+        return Ok(false);
     }
     if got < 20 {
-        return broken(out, used);
+        return broken(out);
     }
-    listed_case(out, used, k, head, snippet, text)
+    listed_case(input, out, k, head, snippet, text)
 }
 
 // Reads a case's snippet and text, and lists the case. Fewer bytes than their lengths break the stream off.
-fn listed_case(
-    out: &mut [u8],
-    used: usize,
+fn listed_case<R: Read, W: Write>(
+    input: &mut R,
+    out: &mut W,
     k: usize,
     head: [u8; 20],
     snippet: &mut [u8],
     text: &mut [u8],
-) -> Turn {
+) -> io::Result<bool> {
     let asked = three(head[14], head[15], head[16]);
-    let before = part(snippet, asked);
+    let before = part(input, snippet, asked)?;
     if before < asked {
-        return broken(out, used);
+        return broken(out);
     }
     let asked = three(head[17], head[18], head[19]);
-    let length = part(text, asked);
+    let length = part(input, text, asked)?;
     if length < asked {
-        return broken(out, used);
+        return broken(out);
     }
     let request = request_of(head);
     let rooms = rooms_of(head);
-    Turn {
-        used: report::one_case(
-            out,
-            used,
-            k,
-            &text[..length],
-            &snippet[..before],
-            request,
-            rooms,
-        ),
-        more: true,
-    }
+    report::one_case(out, k, &text[..length], &snippet[..before], request, rooms)?;
+    Ok(true)
 }
 
 // Reads so many bytes of the stream, or fewer where it ends, or none where the buffer is too small; says how many it read.
-fn part(buffer: &mut [u8], count: usize) -> usize
-    ensures { IsPrefixLen result buffer.new }
+fn part<R: Read>(input: &mut R, buffer: &mut [u8], count: usize) -> io::Result<usize>
+    ensures { ReadsAtMost result buffer.new }
 {
     if buffer.len() < count {
-        return 0;
+        return Ok(0);
     }
-    io::read_full(STDIN_FILENO, &mut buffer[..count])
+    intake::read_full(input, &mut buffer[..count])
 }
 
 // A stream that breaks off ends with one line.
-fn broken(out: &mut [u8], used: usize) -> Turn {
-    Turn {
-        used: listing::words(out, used, b"stream\n"),
-        more: false,
-    }
+fn broken<W: Write>(out: &mut W) -> io::Result<bool> {
+    listing::words(out, b"stream\n")?;
+    Ok(false)
 }
 
 // A number of two bytes.

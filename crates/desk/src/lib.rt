@@ -7,8 +7,10 @@ ghost use Rattle.frame.specs.Frames.{same};
 ghost use Rattle.desk.specs.Partings.{shared};
 
 use frame::{Frame, Mode};
-use libc::STDERR_FILENO;
 use reading::{Hashes, Request};
+use std::env::{Env, FillError};
+use std::io;
+use std::io::Write;
 use tidiness::Tidied;
 
 // How many bytes two lists start with that are the same in both.
@@ -53,52 +55,47 @@ pub fn mode_called(word: &[u8]) -> u8 {
 }
 
 // The mode that an argument of the program calls for: Format where there is none.
-pub fn mode_asked(i: usize) -> u8 {
+pub fn mode_asked<R: Env>(rt: &R, i: usize) -> u8 {
     let mut word = [0u8; 16];
-    let length = os::arg(i, &mut word);
-    let wrong = os::errno();
-    if wrong == libc::EINVAL {
-        return 0;
+    match rt.arg(i, &mut word) {
+        Ok(length) => mode_called(&word[..length]),
+        Err(FillError::NotPresent) => 0,
+        Err(FillError::TooLong) => 255,
     }
-    if wrong != 0 {
-        return 255;
-    }
-    mode_called(&word[..length])
 }
 
 // What a person is told.
-pub fn say(words: &[u8]) {
-    io::write_all(STDERR_FILENO, words);
+pub fn say<E: Write>(err: &mut E, words: &[u8]) -> io::Result<()> {
+    err.write_all(words)
 }
 
-pub fn say_number(n: usize) {
-    io::print_decimal(STDERR_FILENO, n as u64);
+pub fn say_number<E: Write>(err: &mut E, n: usize) -> io::Result<()> {
+    write!(err, "{n}")
 }
 
 // A line of a table, by its number, counted from 1.
-fn say_line(lines: &[u8], number: usize) {
+fn say_line<E: Write>(err: &mut E, lines: &[u8], number: usize) -> io::Result<()> {
     let mut line = 1;
     let mut start = 0;
-    let mut i = 0;
-    while i < lines.len() {
+    for i in 0..lines.len() {
         if lines[i] == b'\n' {
             if line == number {
-                say(&lines[start..i]);
-                return;
+                return say(err, &lines[start..i]);
             }
             line += 1;
             start = i + 1;
         }
-        i += 1;
     }
+    Ok(())
 }
 
 // The piece that an error was found in, and its kind in words: the table has a line for each kind.
-fn say_kind_in_piece(piece: usize, kind: u8) {
-    say(b", the first in piece ");
-    say_number(piece);
-    say(b": ");
+fn say_kind_in_piece<E: Write>(err: &mut E, piece: usize, kind: u8) -> io::Result<()> {
+    say(err, b", the first in piece ")?;
+    say_number(err, piece)?;
+    say(err, b": ")?;
     say_line(
+        err,
         b"a lone `}`; write it twice to have one\n\
         another character stands where a placeholder's `}` should\n\
         the text ends where a placeholder's `}` should stand\n\
@@ -115,19 +112,19 @@ fn say_kind_in_piece(piece: usize, kind: u8) {
         a name, a dot and a number: fields are not read\n\
         `,` stands where a placeholder's `}` should\n",
         kind as usize,
-    );
+    )
 }
 
 // The first error that is found in a text that has one.
-fn say_first_error(text: &[u8], frame: Frame, mode: Mode)
+fn say_first_error<E: Write>(err: &mut E, text: &[u8], frame: Frame, mode: Mode) -> io::Result<()>
     requires { Small text.now frame }
 {
     let turn = turns::next_fault(text, frame, mode, turns::first_cursor(text), 0);
-    say_kind_in_piece(turn.record.piece, turn.record.kind);
+    say_kind_in_piece(err, turn.record.piece, turn.record.kind)
 }
 
 // The same of a text in a mode by its number, which may not be one.
-fn say_error(text: &[u8], mode: u8) {
+fn say_error<E: Write>(err: &mut E, text: &[u8], mode: u8) -> io::Result<()> {
     let request = Request {
         mode,
         style: Hashes::Plain,
@@ -135,28 +132,27 @@ fn say_error(text: &[u8], mode: u8) {
         newline: false,
     };
     let first = answer::decide::opened(text, b"", request);
-    let grammar = first.mode;
-    if first.answer.number == 0 {
-        say_first_error(text, first.frame, grammar);
+    if first.answer.number != 0 {
+        return Ok(());
     }
+    say_first_error(err, text, first.frame, first.mode)
 }
 
 // Why a text has no plain form.
-pub fn say_refused(text: &[u8], mode: u8, told: Tidied) {
-    let number = told.number;
-    match number {
-        1 => say(b"there is no such mode"),
-        3 => say(b"it has more than 65,535 bytes"),
+pub fn say_refused<E: Write>(err: &mut E, text: &[u8], mode: u8, told: Tidied) -> io::Result<()> {
+    match told.number {
+        1 => say(err, b"there is no such mode")?,
+        3 => say(err, b"it has more than 65,535 bytes")?,
         4 => {
-            say(b"it is not UTF-8 from byte ");
-            say_number(told.place);
-            say(b" on");
+            say(err, b"it is not UTF-8 from byte ")?;
+            say_number(err, told.place)?;
+            say(err, b" on")?;
         }
         10 => {
-            say(b"it has errors");
-            say_error(text, mode);
+            say(err, b"it has errors")?;
+            say_error(err, text, mode)?;
         }
-        _ => say(b"its plain form does not fit"),
+        _ => say(err, b"its plain form does not fit")?,
     }
-    say(b"\n");
+    say(err, b"\n")
 }

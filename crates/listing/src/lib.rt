@@ -1,137 +1,131 @@
-// The full and the short listing of a call: each record a line, written through a buffer that the caller lends.
-// Every function takes the buffer and how much of it is used, and gives how much is used afterwards; a full buffer is written out.
+// The full and the short listing of a call: each record a line. Every function writes behind what its writer holds; a program hands over a writer with a buffer.
 #![tactic(auto)]
 
+ghost use Rattle.std.specs.Prelude.{[], ◌∷◌, ◌++◌, OnOk, codes, decimal};
+ghost use Rattle.std.specs.Io.KnownBytes.{Keeps};
+ghost use Rattle.listing.specs.Shapes.{Wrote, shaped};
+
 use frame::{Span, TextRange};
-use libc::STDOUT_FILENO;
 use placeholder::{Align, Argument, Fill, Hex, MaybeSpan, Place, Sign, Spec};
 use reading::{ErrorRecord, MaybeRange, Piece};
 use scan::{Count, Numeral};
+use std::io;
+use std::io::Write;
 
 // One byte.
-pub fn byte(out: &mut [u8], used: usize, b: u8) -> usize {
-    if used < out.len() {
-        out[used] = b;
-        return used + 1;
-    }
-    io::write_all(STDOUT_FILENO, out);
-    if 0 < out.len() {
-        out[0] = b;
-        return 1;
-    }
-    0
+pub fn byte<W: Write>(out: &mut W, b: u8) -> io::Result<()>
+    ensures { Wrote result (W.contents out.old) (W.contents out.new) (b ∷ []) }
+{
+    out.write_all(&[b])
 }
 
 // Words as they stand.
-pub fn words(out: &mut [u8], used: usize, text: &[u8]) -> usize {
-    let mut n = used;
-    let mut i = 0;
-    while i < text.len() {
-        n = byte(out, n, text[i]);
-        i += 1;
-    }
-    n
+pub fn words<W: Write>(out: &mut W, text: &[u8]) -> io::Result<()>
+    ensures { Wrote result (W.contents out.old) (W.contents out.new) text.now }
+{
+    out.write_all(text)
 }
 
 // A number in decimal digits.
-pub fn number(out: &mut [u8], used: usize, value: usize) -> usize {
-    let mut digits = [0u8; 20];
-    let count = io::decimal(value as u64, &mut digits);
-    words(out, used, &digits[..count])
+pub fn number<W: Write>(out: &mut W, value: usize) -> io::Result<()>
+    ensures { Wrote result (W.contents out.old) (W.contents out.new) (decimal value) }
+{
+    write!(out, "{value}")
 }
 
-// What is left in the buffer.
-pub fn flush(out: &[u8], used: usize) {
-    if used <= out.len() {
-        io::write_all(STDOUT_FILENO, &out[..used]);
-    }
+// What is left in the writer's buffer.
+pub fn flush<W: Write>(out: &mut W) -> io::Result<()>
+    ensures { OnOk result (Keeps (W.contents out.old) (W.contents out.new)) }
+{
+    out.flush()
 }
 
 // A line, or a part of one, by its shape: the first `#` in it stands for the first number, every later one for the second.
-pub fn form(out: &mut [u8], used: usize, shape: &[u8], first: usize, second: usize) -> usize {
-    let mut n = used;
+pub fn form<W: Write>(out: &mut W, shape: &[u8], first: usize, second: usize) -> io::Result<()>
+    ensures { Wrote result (W.contents out.old) (W.contents out.new) (shaped shape.now first second) }
+{
     let mut next = first;
-    let mut i = 0;
-    while i < shape.len() {
-        if shape[i] == b'#' {
-            n = number(out, n, next);
+    for b in shape {
+        if *b == b'#' {
+            number(out, next)?;
             next = second;
         } else {
-            n = byte(out, n, shape[i]);
+            byte(out, *b)?;
         }
-        i += 1;
     }
-    n
+    Ok(())
 }
 
 // A word, then a number.
-fn labelled(out: &mut [u8], used: usize, label: &[u8], value: usize) -> usize {
-    let n = words(out, used, label);
-    number(out, n, value)
+fn labelled<W: Write>(out: &mut W, label: &[u8], value: usize) -> io::Result<()>
+    ensures { Wrote result (W.contents out.old) (W.contents out.new) (label.now ++ decimal value) }
+{
+    words(out, label)?;
+    number(out, value)
 }
 
 // A word, then a span or `-`.
-fn maybe_span(out: &mut [u8], used: usize, label: &[u8], s: MaybeSpan) -> usize {
-    let n = words(out, used, label);
+fn maybe_span<W: Write>(out: &mut W, label: &[u8], s: MaybeSpan) -> io::Result<()> {
+    words(out, label)?;
     match s {
-        MaybeSpan::Absent => byte(out, n, b'-'),
-        MaybeSpan::Present(x) => form(out, n, b"#..#", x.start.0, x.end.0),
+        MaybeSpan::Absent => byte(out, b'-'),
+        MaybeSpan::Present(x) => form(out, b"#..#", x.start.0, x.end.0),
     }
 }
 
-fn quoted(out: &mut [u8], used: usize, r: MaybeRange) -> usize {
+fn quoted<W: Write>(out: &mut W, r: MaybeRange) -> io::Result<()> {
     match r {
-        MaybeRange::Absent => words(out, used, b" quoted -"),
-        MaybeRange::Present(x) => form(out, used, b" quoted #..#", x.start.0, x.end.0),
+        MaybeRange::Absent => words(out, b" quoted -"),
+        MaybeRange::Present(x) => form(out, b" quoted #..#", x.start.0, x.end.0),
     }
 }
 
 // A word, then a number, or `over` where it is over range.
-fn numeral(out: &mut [u8], used: usize, label: &[u8], n: Numeral) -> usize {
-    let k = words(out, used, label);
+fn numeral<W: Write>(out: &mut W, label: &[u8], n: Numeral) -> io::Result<()> {
+    words(out, label)?;
     match n {
-        Numeral::Within(i) => number(out, k, i as usize),
-        Numeral::Over => words(out, k, b"over"),
+        Numeral::Within(i) => number(out, i as usize),
+        Numeral::Over => words(out, b"over"),
     }
 }
 
 // A place that is a number: `at` and the number, or `over` alone.
-fn numbered(out: &mut [u8], used: usize, n: Numeral) -> usize {
+fn numbered<W: Write>(out: &mut W, n: Numeral) -> io::Result<()> {
     match n {
-        Numeral::Within(i) => labelled(out, used, b"at ", i as usize),
-        Numeral::Over => words(out, used, b"over"),
+        Numeral::Within(i) => labelled(out, b"at ", i as usize),
+        Numeral::Over => words(out, b"over"),
     }
 }
 
-fn place(out: &mut [u8], used: usize, p: Place) -> usize {
+fn place<W: Write>(out: &mut W, p: Place) -> io::Result<()> {
     match p {
-        Place::Next(i) => labelled(out, used, b"next ", i),
-        Place::At(i) => numbered(out, used, i),
-        Place::Named(r) => form(out, used, b"name # #", r.start.0, r.end.0),
+        Place::Next(i) => labelled(out, b"next ", i),
+        Place::At(i) => numbered(out, i),
+        Place::Named(r) => form(out, b"name # #", r.start.0, r.end.0),
     }
 }
 
-fn by_name(out: &mut [u8], used: usize, r: TextRange, s: Span) -> usize {
-    let n = form(out, used, b"name # #", r.start.0, r.end.0);
-    form(out, n, b" #..#", s.start.0, s.end.0)
+fn by_name<W: Write>(out: &mut W, r: TextRange, s: Span) -> io::Result<()> {
+    form(out, b"name # #", r.start.0, r.end.0)?;
+    form(out, b" #..#", s.start.0, s.end.0)
 }
 
-fn count(out: &mut [u8], used: usize, c: Count) -> usize {
+fn count<W: Write>(out: &mut W, c: Count) -> io::Result<()> {
     match c {
-        Count::Implied => words(out, used, b"implied"),
-        Count::Fixed(i) => numeral(out, used, b"fixed ", i),
-        Count::ByName(r, s) => by_name(out, used, r, s),
-        Count::ByArgument(i) => numeral(out, used, b"arg ", i),
-        Count::ByStar(i) => labelled(out, used, b"star ", i),
+        Count::Implied => words(out, b"implied"),
+        Count::Fixed(i) => numeral(out, b"fixed ", i),
+        Count::ByName(r, s) => by_name(out, r, s),
+        Count::ByArgument(i) => numeral(out, b"arg ", i),
+        Count::ByStar(i) => labelled(out, b"star ", i),
     }
 }
 
-fn fill(out: &mut [u8], used: usize, f: Fill) -> usize {
+fn fill<W: Write>(out: &mut W, f: Fill) -> io::Result<()> {
     match f {
-        Fill::Absent => words(out, used, b" fill -"),
+        Fill::Absent => words(out, b" fill -"),
         Fill::Present(code, s) => {
-            let n = form(out, used, b" fill # #..", code as usize, s.start.0);
-            number(out, n, s.end.0)
+            form(out, b" fill # #..", code as usize, s.start.0)?;
+            number(out, s.end.0)
         }
     }
 }
@@ -169,131 +163,121 @@ fn flag(b: bool) -> usize {
 }
 
 // A word, then a count and its span.
-fn labelled_count(out: &mut [u8], used: usize, label: &[u8], c: Count, s: MaybeSpan) -> usize {
-    let n = words(out, used, label);
-    let n = count(out, n, c);
-    maybe_span(out, n, b" ", s)
+fn labelled_count<W: Write>(out: &mut W, label: &[u8], c: Count, s: MaybeSpan) -> io::Result<()> {
+    words(out, label)?;
+    count(out, c)?;
+    maybe_span(out, b" ", s)
 }
 
-fn marks(out: &mut [u8], used: usize, align: Align, sign: Sign) -> usize {
+fn marks<W: Write>(out: &mut W, align: Align, sign: Sign) -> io::Result<()> {
     form(
         out,
-        used,
         b" align # sign #",
         align_number(align),
         sign_number(sign),
     )
 }
 
-fn flags(out: &mut [u8], used: usize, alternate: bool, zero: bool, hex: Hex) -> usize {
-    let n = form(
-        out,
-        used,
-        b" alt # zero # hex ",
-        flag(alternate),
-        flag(zero),
-    );
-    number(out, n, hex_number(hex))
+fn flags<W: Write>(out: &mut W, alternate: bool, zero: bool, hex: Hex) -> io::Result<()> {
+    form(out, b" alt # zero # hex ", flag(alternate), flag(zero))?;
+    number(out, hex_number(hex))
 }
 
 // A spec's type, the last of its line.
-fn typed(out: &mut [u8], used: usize, name: TextRange, at: MaybeSpan) -> usize {
-    let n = form(out, used, b" type # #", name.start.0, name.end.0);
-    let n = maybe_span(out, n, b" ", at);
-    byte(out, n, b'\n')
+fn typed<W: Write>(out: &mut W, name: TextRange, at: MaybeSpan) -> io::Result<()> {
+    form(out, b" type # #", name.start.0, name.end.0)?;
+    maybe_span(out, b" ", at)?;
+    byte(out, b'\n')
 }
 
 // Where an argument's place stands, and its spec.
-fn details(out: &mut [u8], used: usize, at: Span, s: Spec) -> usize {
-    let filling = s.fill;
-    let align = s.align;
-    let sign = s.sign;
-    let hex = s.hex;
-    let n = form(out, used, b" span #..#", at.start.0, at.end.0);
-    let n = fill(out, n, filling);
-    let n = marks(out, n, align, sign);
-    let n = flags(out, n, s.alternate, s.zero, hex);
-    counts(out, n, s)
+fn details<W: Write>(out: &mut W, at: Span, s: Spec) -> io::Result<()> {
+    form(out, b" span #..#", at.start.0, at.end.0)?;
+    fill(out, s.fill)?;
+    marks(out, s.align, s.sign)?;
+    flags(out, s.alternate, s.zero, s.hex)?;
+    counts(out, s)
 }
 
 // A spec's width, precision and type.
-fn counts(out: &mut [u8], used: usize, s: Spec) -> usize {
-    let width = s.width;
-    let widthspan = s.widthspan;
-    let precision = s.precision;
-    let precisionspan = s.precisionspan;
-    let typespan = s.typespan;
-    let n = labelled_count(out, used, b" width ", width, widthspan);
-    let n = labelled_count(out, n, b" precision ", precision, precisionspan);
-    typed(out, n, s.typetext, typespan)
+fn counts<W: Write>(out: &mut W, s: Spec) -> io::Result<()> {
+    labelled_count(out, b" width ", s.width, s.widthspan)?;
+    labelled_count(out, b" precision ", s.precision, s.precisionspan)?;
+    typed(out, s.typetext, s.typespan)
 }
 
 // An argument's bytes and its place.
-fn placed(out: &mut [u8], used: usize, bytes: TextRange, at: Place) -> usize {
-    let n = form(out, used, b"arg # # ", bytes.start.0, bytes.end.0);
-    place(out, n, at)
+fn placed<W: Write>(out: &mut W, bytes: TextRange, at: Place) -> io::Result<()> {
+    form(out, b"arg # # ", bytes.start.0, bytes.end.0)?;
+    place(out, at)
 }
 
-fn literal(out: &mut [u8], used: usize, r: TextRange) -> usize {
-    form(out, used, b"lit # #\n", r.start.0, r.end.0)
+fn literal<W: Write>(out: &mut W, r: TextRange) -> io::Result<()>
+    ensures { Wrote result (W.contents out.old) (W.contents out.new) (shaped (codes "lit # #\n") r.start.0 r.end.0) }
+{
+    form(out, b"lit # #\n", r.start.0, r.end.0)
 }
 
 // An argument's line.
-fn argument(out: &mut [u8], used: usize, full: bool, a: Argument) -> usize {
-    let at = a.place;
-    let n = placed(out, used, a.range, at);
+fn argument<W: Write>(out: &mut W, full: bool, a: Argument) -> io::Result<()> {
+    placed(out, a.range, a.place)?;
     if full {
-        return details(out, n, a.placespan, a.spec);
+        return details(out, a.placespan, a.spec);
     }
-    byte(out, n, b'\n')
+    byte(out, b'\n')
 }
 
 // A piece's line: in short its bytes, and an argument's place.
-pub fn piece(out: &mut [u8], used: usize, full: bool, p: Piece) -> usize {
+pub fn piece<W: Write>(out: &mut W, full: bool, p: Piece) -> io::Result<()> {
     match p {
-        Piece::Literal(r) => literal(out, used, r),
-        Piece::Placeholder(a) => argument(out, used, full, a),
+        Piece::Literal(r) => literal(out, r),
+        Piece::Placeholder(a) => argument(out, full, a),
     }
 }
 
 // An error record's kind and span.
-fn error_head(out: &mut [u8], used: usize, kind: u8, at: Span) -> usize {
-    let n = form(out, used, b"err # #..", kind as usize, at.start.0);
-    number(out, n, at.end.0)
+fn error_head<W: Write>(out: &mut W, kind: u8, at: Span) -> io::Result<()> {
+    form(out, b"err # #..", kind as usize, at.start.0)?;
+    number(out, at.end.0)
 }
 
 // An error record's line.
-pub fn error(out: &mut [u8], used: usize, e: ErrorRecord) -> usize {
-    let second = e.second;
-    let quotation = e.quoted;
-    let suggestion = e.suggestion;
-    let n = error_head(out, used, e.kind, e.span);
-    let n = maybe_span(out, n, b" second ", second);
-    let n = quoted(out, n, quotation);
-    let n = maybe_span(out, n, b" suggestion ", suggestion);
-    heading(out, n, b" piece ", e.piece)
+pub fn error<W: Write>(out: &mut W, e: ErrorRecord) -> io::Result<()> {
+    error_head(out, e.kind, e.span)?;
+    maybe_span(out, b" second ", e.second)?;
+    quoted(out, e.quoted)?;
+    maybe_span(out, b" suggestion ", e.suggestion)?;
+    heading(out, b" piece ", e.piece)
 }
 
 // A line of an argument place or a line span: its label, start and end.
-pub fn pair_line(out: &mut [u8], used: usize, label: &[u8], start: usize, end: usize) -> usize {
-    let n = words(out, used, label);
-    form(out, n, b" #..#\n", start, end)
+pub fn pair_line<W: Write>(out: &mut W, label: &[u8], start: usize, end: usize) -> io::Result<()>
+    ensures { Wrote result (W.contents out.old) (W.contents out.new) (label.now ++ shaped (codes " #..#\n") start end) }
+{
+    words(out, label)?;
+    form(out, b" #..#\n", start, end)
 }
 
 // An error record's line in the short listing: its kind, its span, and how many pieces were listed before it.
-pub fn short_error(out: &mut [u8], used: usize, e: ErrorRecord) -> usize {
-    let n = form(out, used, b"# # ", e.kind as usize, e.span.start.0);
-    form(out, n, b"# #\n", e.span.end.0, e.piece)
+pub fn short_error<W: Write>(out: &mut W, e: ErrorRecord) -> io::Result<()>
+    ensures { Wrote result (W.contents out.old) (W.contents out.new) (shaped (codes "# # ") e.kind e.span.start.0 ++ shaped (codes "# #\n") e.span.end.0 e.piece) }
+{
+    form(out, b"# # ", e.kind as usize, e.span.start.0)?;
+    form(out, b"# #\n", e.span.end.0, e.piece)
 }
 
 // A span's line in the short listing.
-pub fn short_pair(out: &mut [u8], used: usize, start: usize, end: usize) -> usize {
-    form(out, used, b"# #\n", start, end)
+pub fn short_pair<W: Write>(out: &mut W, start: usize, end: usize) -> io::Result<()>
+    ensures { Wrote result (W.contents out.old) (W.contents out.new) (shaped (codes "# #\n") start end) }
+{
+    form(out, b"# #\n", start, end)
 }
 
 // A word, a number and the line's end.
-pub fn heading(out: &mut [u8], used: usize, label: &[u8], value: usize) -> usize {
-    let n = words(out, used, label);
-    let n = number(out, n, value);
-    byte(out, n, b'\n')
+pub fn heading<W: Write>(out: &mut W, label: &[u8], value: usize) -> io::Result<()>
+    ensures { Wrote result (W.contents out.old) (W.contents out.new) (label.now ++ (decimal value ++ 10 ∷ [])) }
+{
+    words(out, label)?;
+    number(out, value)?;
+    byte(out, b'\n')
 }

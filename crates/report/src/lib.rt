@@ -1,5 +1,5 @@
 // What a program writes of a call: the lists are made here, lent to the reader, and listed, a line for each record.
-// Every function takes the output's buffer and how much of it is used, and gives how much is used afterwards (listing).
+// Every function writes behind what its writer holds (listing).
 #![tactic(auto)]
 
 ghost use Rattle.std.specs.Prelude.{◌≤◌};
@@ -7,6 +7,8 @@ ghost use Rattle.std.specs.Prelude.{◌≤◌};
 use frame::{SnippetPlace, Span, TextPlace, TextRange};
 use placeholder::MaybeSpan;
 use reading::{ErrorRecord, MaybeRange, Piece, Request, Rooms};
+use std::io;
+use std::io::Write;
 
 pub mod lists; // lists.rt: the lists that are lent
 pub mod lines; // lines.rt: the lines of each list
@@ -35,31 +37,23 @@ fn no_error() -> ErrorRecord {
 }
 
 // A text that is not refused, in full: its answer, and a line for each record of its lists.
-pub fn full(out: &mut [u8], used: usize, text: &[u8], snippet: &[u8], request: Request) -> usize {
-    lists::listed(
-        out,
-        used,
-        true,
-        text,
-        snippet,
-        request,
-        no_piece(),
-        no_error(),
-    )
+pub fn full<W: Write>(
+    out: &mut W,
+    text: &[u8],
+    snippet: &[u8],
+    request: Request,
+) -> io::Result<()> {
+    lists::listed(out, true, text, snippet, request, no_piece(), no_error())
 }
 
 // A text that is not refused, in short: each list after its count.
-pub fn short(out: &mut [u8], used: usize, text: &[u8], snippet: &[u8], request: Request) -> usize {
-    lists::listed(
-        out,
-        used,
-        false,
-        text,
-        snippet,
-        request,
-        no_piece(),
-        no_error(),
-    )
+pub fn short<W: Write>(
+    out: &mut W,
+    text: &[u8],
+    snippet: &[u8],
+    request: Request,
+) -> io::Result<()> {
+    lists::listed(out, false, text, snippet, request, no_piece(), no_error())
 }
 
 // As many as asked, and at most as many as a list holds.
@@ -71,15 +65,14 @@ fn room(asked: usize) -> usize
 
 // A case of a stream: `case K`, the answer with the case's rooms, and the records where it is done.
 // The reader changes no list when it refuses, which its contract says, so `changed` is never written.
-pub fn one_case(
-    out: &mut [u8],
-    used: usize,
+pub fn one_case<W: Write>(
+    out: &mut W,
     k: usize,
     text: &[u8],
     snippet: &[u8],
     request: Request,
     rooms: Rooms,
-) -> usize {
+) -> io::Result<()> {
     let held = Rooms {
         pieces: room(rooms.pieces),
         errors: room(rooms.errors),
@@ -88,9 +81,9 @@ pub fn one_case(
     };
     let decision = answer::decide::decide(text, snippet, request, held);
     let answer = decision.answer;
-    let n = listing::heading(out, used, b"case ", k);
+    listing::heading(out, b"case ", k)?;
     if answer.number == 0 {
-        return full(out, n, text, snippet, request);
+        return full(out, text, snippet, request);
     }
-    lines::answer_line(out, n, answer)
+    lines::answer_line(out, answer)
 }

@@ -4,7 +4,8 @@
 
 ghost use Rattle.std.specs.Prelude.{◌≤◌};
 
-use libc::STDOUT_FILENO;
+use std::io;
+use std::io::Write;
 
 const SPACE: u8 = 0;
 
@@ -15,32 +16,34 @@ const CONTINUE: u8 = 2;
 // The first code past the last scalar value.
 const PAST: u32 = 0x110000;
 
-fn main() {
-    section(b"space ", SPACE);
-    section(b"start ", START);
-    section(b"continue ", CONTINUE);
+fn main(rt: HostRuntime) -> io::Result<()> {
+    let mut out = rt.stdout();
+    section(&mut out, b"space ", SPACE)?;
+    section(&mut out, b"start ", START)?;
+    section(&mut out, b"continue ", CONTINUE)
 }
 
-fn section(name: &[u8], question: u8) {
-    io::write_all(STDOUT_FILENO, name);
-    io::print_decimal(STDOUT_FILENO, ranges(question, false));
-    io::write_all(STDOUT_FILENO, b"\n");
-    ranges(question, true);
+fn section<W: Write>(out: &mut W, name: &[u8], question: u8) -> io::Result<()> {
+    out.write_all(name)?;
+    let count = ranges(out, question, false)?;
+    writeln!(out, "{count}")?;
+    ranges(out, question, true)?;
+    Ok(())
 }
 
 // The number of ranges, each written as a line if `show`.
-fn ranges(question: u8, show: bool) -> u64 {
+fn ranges<W: Write>(out: &mut W, question: u8, show: bool) -> io::Result<u64> {
     let mut count: u64 = 0;
     let mut from = next(question, true, 0);
     while from < PAST {
         let past = next(question, false, from + 1);
         if show {
-            line(from, past - 1);
+            line(out, from, past - 1)?;
         }
         count += 1;
         from = next(question, true, past);
     }
-    count
+    Ok(count)
 }
 
 // The first code from `from` on with this answer, or one past the last.
@@ -72,23 +75,28 @@ fn ask(question: u8, c: u32) -> bool {
 }
 
 // A range as a line.
-fn line(from: u32, to: u32) {
-    hex(from);
-    io::write_all(STDOUT_FILENO, b" ");
-    hex(to);
-    io::write_all(STDOUT_FILENO, b"\n");
+fn line<W: Write>(out: &mut W, from: u32, to: u32) -> io::Result<()> {
+    hex(out, from)?;
+    out.write_all(b" ")?;
+    hex(out, to)?;
+    out.write_all(b"\n")
 }
 
 // A code in hex digits, in upper case.
-fn hex(c: u32) {
-    let mut text = [0u8; 16];
-    let n = io::hex(c as u64, 1, &mut text);
-    let mut i = 0;
-    while i < 16 {
-        text[i] = upper(text[i]);
-        i += 1;
+fn hex<W: Write>(out: &mut W, c: u32) -> io::Result<()> {
+    let digits = b"0123456789abcdef";
+    let mut text = [0u8; 8];
+    let mut start = 8;
+    let mut rest = c;
+    while 0 < start {
+        start -= 1;
+        text[start] = upper(digits[(rest % 16) as usize]);
+        rest /= 16;
+        if rest == 0 {
+            break;
+        }
     }
-    io::write_all(STDOUT_FILENO, &text[..n]);
+    out.write_all(&text[start..])
 }
 
 fn upper(b: u8) -> u8 {

@@ -3,29 +3,34 @@
 #![tactic(auto)]
 
 use desk::say;
-use libc::{STDIN_FILENO, STDOUT_FILENO};
+use std::io;
+use std::io::Write;
 
 // Tidies a text, and writes its plain form or why there is none.
-fn answer(text: &[u8], mode: u8, out: &mut [u8]) {
-    let told = tidies::tidy(text, mode, &mut *out);
+fn answer<W: Write, E: Write>(
+    out: &mut W,
+    err: &mut E,
+    text: &[u8],
+    mode: u8,
+    form: &mut [u8],
+) -> io::Result<()> {
+    let told = tidies::tidy(text, mode, form);
     if told.number != 0 {
-        say(b"no plain form: ");
-        desk::say_refused(text, mode, told);
-        return;
+        say(err, b"no plain form: ")?;
+        return desk::say_refused(err, text, mode, told);
     }
-    let bytes = told.bytes;
-    io::write_all(STDOUT_FILENO, &out[..bytes]);
+    out.write_all(&form[..told.bytes])
 }
 
-fn main() {
-    let mode = desk::mode_asked(1);
+fn main(rt: HostRuntime) -> io::Result<()> {
+    let mut err = rt.stderr();
+    let mode = desk::mode_asked(&rt, 1);
     if 2 < mode {
-        say(b"the mode is `format`, `asm` or `diagnostic`\n");
-        return;
+        return say(&mut err, b"the mode is `format`, `asm` or `diagnostic`\n");
     }
     // One byte more than the longest text that is read: a longer input is read far enough to be refused as 3.
-    let mut text = io::large_buffer();
-    let length = io::read_full(STDIN_FILENO, &mut text);
-    let mut out = io::large_buffer();
-    answer(&text[..length], mode, &mut out);
+    let mut text = [0u8; 65536];
+    let length = intake::read_full(&mut rt.stdin(), &mut text)?;
+    let mut form = [0u8; 65536];
+    answer(&mut rt.stdout(), &mut err, &text[..length], mode, &mut form)
 }

@@ -1,0 +1,2 @@
+-- What a listing is made of (Shapes).
+pub mod Shapes
