@@ -1,0 +1,17 @@
+-- `plains::put_told` meets its contract: four numbers are set, one after the other.
+use native.Mathlib.Omega.{arith}
+use lib.ListN.{length-set}
+use Rattle.plains.proofs.Telling.{four}
+use Rattle.plains.proofs.put_told.Goals as goal
+
+pub bounds-answer-1 : goal.bounds-answer-1
+bounds-answer-1 c = simp length-set (omega arith)
+
+pub bounds-answer-2 : goal.bounds-answer-2
+bounds-answer-2 c = simp length-set (omega arith)
+
+pub bounds-answer-3 : goal.bounds-answer-3
+bounds-answer-3 c = simp length-set (omega arith)
+
+pub returns : goal.returns
+returns c = four c.args.answer.now c.args.told c.requires
