@@ -8,7 +8,6 @@ use lib.ListN.{length}
 use Rattle.utf8.specs.Choice.{pick}
 use Rattle.utf8.specs.ChoiceLaws.{either_true}
 use Rattle.reading.specs.Exits.{at_exit}
-use Rattle.reading.specs.Lists.{places, lines}
 use Rattle.reading.specs.Written.{over}
 use Rattle.reading.specs.declared.Answer.{Answer}
 use Rattle.reading.specs.declared.Request.{Request}
