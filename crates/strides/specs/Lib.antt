@@ -3,6 +3,4 @@
 pub mod Strides
 pub mod LeftLaws
 pub mod PayLaws
-pub mod StrideLaws
-pub mod Striding
 pub mod Cases

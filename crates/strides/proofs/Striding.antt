@@ -9,7 +9,7 @@ use Rattle.reading.specs.Answers.{mode_for, answer_of}
 use Rattle.reading.specs.declared.Request.{Request}
 use Rattle.reading.specs.declared.Rooms.{Rooms}
 use Rattle.strides.specs.Strides.{characters, times}
-use Rattle.strides.specs.StrideLaws.{mode_bound, times_few, answer_bound, answer_none}
+use Rattle.strides.proofs.StrideLaws.{mode_bound, times_few, answer_bound, answer_none}
 
 module _ (t : List ℕ) (f : Frame) where
   -- IN ANY MODE no more than twice the characters of the text
