@@ -18,7 +18,8 @@ use Rattle.reading.specs.Moves.{moves}
 use Rattle.reading.specs.Steps.{step_at, onward, follow, steps_from, start, reading}
 use Rattle.reading.specs.declared.Onward.{Onward}
 use Rattle.reading.specs.declared.State.{State}
-use Rattle.laws.specs.MoveLaws.{given, given_in, stop_of, moves_told, moves_told_lem, step_given}
+use Rattle.laws.specs.MoveLaws.{given, given_in, stop_of, moves_told, step_given}
+use Rattle.laws.proofs.MovesTold.{moves_told_lem}
 use Rattle.laws.specs.ListLaws.{no_places, no_lines}
 use Rattle.laws.specs.RoomLaws.{few_pieces, few_errors}
 use Rattle.reading.specs.declared.Counts.{Counts}

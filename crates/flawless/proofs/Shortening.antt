@@ -10,7 +10,8 @@ use Rattle.utf8.specs.Choice.{pick, within}
 use Rattle.utf8.specs.ChoiceLaws.{not_so, either_true, in_within}
 use Rattle.utf8.specs.CharLaws.{ascii_char}
 use Rattle.letters.specs.Ascii.{ascii_start, ascii_continue}
-use Rattle.letters.specs.AsciiLaws.{no_start, continue_low}
+use Rattle.letters.specs.AsciiLaws.{no_start}
+use Rattle.letters.proofs.SmallLetters.{continue_low}
 use Rattle.frame.specs.Places.{place}
 use Rattle.scan.specs.Words.{is_digit, word_end}
 use Rattle.scan.specs.AsciiWordLaws.{byte_in, start_in, word_start, word_none, continue_stop}

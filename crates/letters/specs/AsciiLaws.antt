@@ -58,27 +58,7 @@ pub above_space : (c : ℕ) → 0x20 < c → c < 0x80 → is_space c ≡ false
 unfolding ascii_space within
 above_space c l h = ascii_space_lem c h ∙ simp (ne_eqb c 0x20 (omega arith), le-leb 9 c (omega arith), lt-leb c 13 (omega arith))
 
--- from 0x61 on only the small letters start an identifier
-pub small_start : (b : ℕ) → 0x61 ≤ b → ascii_start b ≡ leb b 0x7A
-unfolding ascii_start within
-small_start b l = simp (le-leb 0x61 b l, le-leb 0x41 b (omega arith), lt-leb b 0x5A (omega arith), ne_eqb b 0x5F (omega arith), either_false)
-
 -- and below 0x41 nothing does
 pub no_start : (b : ℕ) → b < 0x41 → ascii_start b ≡ false
 unfolding ascii_start within
 no_start b l = simp (lt-leb 0x61 b (omega arith), lt-leb 0x41 b l, ne_eqb b 0x5F (omega arith))
-
--- from 0x61 on only the small letters continue one
-pub small_continue : (b : ℕ) → 0x61 ≤ b → ascii_continue b ≡ leb b 0x7A
-unfolding ascii_continue within
-small_continue b l = simp (le-leb 0x30 b (omega arith), lt-leb b 0x39 (omega arith)) (small_start b l)
-
--- what continues one as ASCII is ASCII
-pub continue_low : (b : ℕ) → ascii_continue b ≡ true → b < 0x80
-continue_low b y = go (ltb b 0x80) refl
-  where
-    go : (x : Bool) → ltb b 0x80 ≡ x → b < 0x80
-    go true e = ltb-true b 0x80 e
-    go false e =
-        let h = ltb-false b 0x80 e in
-        absurd (true≢false (sym y ∙ small_continue b (omega arith) ∙ lt-leb b 0x7A (omega arith)))

@@ -104,6 +104,9 @@ fn ascii_continue(b: u8) -> bool
     ascii_start(b)
 }
 
+// The sign `×`, the only character from C0 to F6 that starts no name.
+const TIMES_SIGN: u32 = 0xD7;
+
 // Whether a character is in the ranges that names mostly have beyond ASCII, Latin, Greek and Cyrillic letters and Han characters, which no table is stored for.
 fn is_frequent(c: u32) -> bool
     ensures { result ≡ true → is_start c ≡ true }
@@ -126,7 +129,7 @@ fn is_frequent(c: u32) -> bool
     if c < 0xC0 {
         return false;
     }
-    if c == 0xD7 {
+    if c == TIMES_SIGN {
         return false;
     }
     c != 0xF7

@@ -5,6 +5,9 @@ ghost use Rattle.reading.specs.Texts.{is_boundary, literal_text};
 
 use frame::TextRange;
 
+// The last of the bytes that stand behind the first of their character: 80 to BF.
+const LAST_BEHIND: u8 = 0xBF;
+
 // Whether a place is within the text and stands before no byte 80 to BF.
 fn is_boundary(text: &[u8], at: usize) -> bool
     ensures { result ≡ is_boundary text.now at }
@@ -14,7 +17,7 @@ fn is_boundary(text: &[u8], at: usize) -> bool
         if b < 0x80 {
             return true;
         }
-        if b <= 0xBF {
+        if b <= LAST_BEHIND {
             return false;
         }
         return true;

@@ -22,7 +22,8 @@ use Rattle.reading.specs.declared.Step.{Step}
 use Rattle.reading.specs.declared.Onward.{Onward}
 use Rattle.laws.specs.StateLaws.{standing, last_state}
 use Rattle.laws.specs.StepLaws.{Run, reading_run}
-use Rattle.laws.specs.MoveLaws.{given_by, given_in, given, stop_of, lone, moves_told, given_over, moves_told_lem}
+use Rattle.laws.specs.MoveLaws.{given_by, given_in, given, stop_of, lone, moves_told, given_over}
+use Rattle.laws.proofs.MovesTold.{moves_told_lem}
 use Rattle.strides.specs.Strides.{characters, times}
 use Rattle.strides.specs.LeftLaws.{left, conts, conts_few, text_left, some_left, mark_conts}
 use Rattle.strides.specs.PayLaws.{Gives, gives_none, gives_both, placeholder_paid}

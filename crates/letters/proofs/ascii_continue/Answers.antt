@@ -4,7 +4,8 @@ use native.Mathlib.Omega.{arith}
 use borrow.Author.Tests.{le-leb, lt-leb}
 use Rattle.utf8.specs.Choice.{within}
 use Rattle.letters.specs.Ascii.{ascii_continue}
-use Rattle.letters.specs.AsciiLaws.{small_continue, no_start}
+use Rattle.letters.specs.AsciiLaws.{no_start}
+use Rattle.letters.proofs.SmallLetters.{small_continue}
 use Rattle.letters.proofs.ascii_continue.Goals as goal
 
 pub returns-then-b-ge97 : goal.returns-then-b-ge97

@@ -3,7 +3,8 @@ use mathlib.Core.Path.{sym}
 use borrow.Author.Tests.{le-leb, lt-leb}
 use Rattle.utf8.specs.Choice.{within}
 use Rattle.letters.specs.Ascii.{ascii_start}
-use Rattle.letters.specs.AsciiLaws.{small_start, no_start}
+use Rattle.letters.specs.AsciiLaws.{no_start}
+use Rattle.letters.proofs.SmallLetters.{small_start}
 use Rattle.letters.proofs.ascii_start.Goals as goal
 
 pub returns-then-b-ge97 : goal.returns-then-b-ge97

@@ -28,8 +28,8 @@ returns-then-c-ge248 c = λ y. greek_starts _ c.if-c-lt931.false c.if-c-gt1153.f
 pub returns-then-c-lt192 : goal.returns-then-c-lt192
 returns-then-c-lt192 c = λ y. absurd (true≢false (sym y))
 
-pub returns-then-c-eq215 : goal.returns-then-c-eq215
-returns-then-c-eq215 c = λ y. absurd (true≢false (sym y))
+pub returns-then-c-eq-TIMES_SIGN : goal.returns-then-c-eq-TIMES_SIGN
+returns-then-c-eq-TIMES_SIGN c = λ y. absurd (true≢false (sym y))
 
 pub returns : goal.returns
-returns c = λ y. latin_starts _ c.if-c-lt192.false c.if-c-ge248.false c.if-c-eq215.false (eqb-false _ _ (not-true _ y))
+returns c = λ y. latin_starts _ c.if-c-lt192.false c.if-c-ge248.false c.if-c-eq-TIMES_SIGN.false (eqb-false _ _ (not-true _ y))

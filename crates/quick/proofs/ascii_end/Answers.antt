@@ -5,7 +5,8 @@ use native.Mathlib.Omega.{arith}
 use borrow.Author.Tests.{not-true, not-false}
 use Rattle.letters.specs.Questions.{is_continue}
 use Rattle.utf8.specs.CharLaws.{ascii_more}
-use Rattle.letters.specs.AsciiLaws.{ascii_continue_lem, continue_low}
+use Rattle.letters.specs.AsciiLaws.{ascii_continue_lem}
+use Rattle.letters.proofs.SmallLetters.{continue_low}
 use Rattle.quick.proofs.Bytes.{ascii_one}
 use Rattle.quick.proofs.ascii_end.Goals as goal
 

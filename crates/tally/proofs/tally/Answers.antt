@@ -10,7 +10,8 @@ use Rattle.reading.specs.Steps.{reading}
 use Rattle.tally.proofs.CountLaws.{sum_zero, counts_all, countable_sum, clear_counts, one_more_lem, one_countable, turn_more, turn_over, turn_none}
 use Rattle.laws.specs.WalkLaws.{kept_start, kept_on}
 use Rattle.laws.specs.WantLaws.{few_step}
-use Rattle.laws.specs.MoveLaws.{given as back, given_on, given_last, given_few, given_none, moves_over}
+use Rattle.laws.specs.MoveLaws.{given as back, given_on, given_last, given_few, given_none}
+use Rattle.laws.proofs.MovesTold.{moves_over}
 use Rattle.laws.specs.StateLaws.{last_on, last_over, last_none, arguments_all}
 use Rattle.reading.specs.declared.State.{State}
 use Rattle.tally.proofs.tally.Goals.{After-given_by-given, After-pass_piece-passed}

@@ -8,13 +8,13 @@ pub returns-then-b-lt128 : goal.returns-then-b-lt128
 unfolding is_boundary pick within
 returns-then-b-lt128 c = rw (lt-ltb _ _ c.if-at-text.true, lt-leb _ _ c.if-b-lt128.true)
 
-pub returns-then-b-le191 : goal.returns-then-b-le191
+pub returns-then-b-le-LAST_BEHIND : goal.returns-then-b-le-LAST_BEHIND
 unfolding is_boundary pick within
-returns-then-b-le191 c = rw (lt-ltb _ _ c.if-at-text.true, le-leb _ _ c.if-b-lt128.false, le-leb _ _ c.if-b-le191.true)
+returns-then-b-le-LAST_BEHIND c = rw (lt-ltb _ _ c.if-at-text.true, le-leb _ _ c.if-b-lt128.false, le-leb _ _ c.if-b-le-LAST_BEHIND.true)
 
 pub returns-then-at-text : goal.returns-then-at-text
 unfolding is_boundary pick within
-returns-then-at-text c = rw (lt-ltb _ _ c.if-at-text.true, le-leb _ _ c.if-b-lt128.false, lt-leb _ _ c.if-b-le191.false)
+returns-then-at-text c = rw (lt-ltb _ _ c.if-at-text.true, le-leb _ _ c.if-b-lt128.false, lt-leb _ _ c.if-b-le-LAST_BEHIND.false)
 
 pub returns : goal.returns
 unfolding is_boundary pick

@@ -1,0 +1,2 @@
+-- What is proved of definitions that edits change (specs/MoveLaws).
+pub mod MovesTold
