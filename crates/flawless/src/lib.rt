@@ -22,6 +22,9 @@ use quick::{PartTold, PlaceholderTold, SignHint, SpecTold, TypeTold};
 use told::parts::{put_bare, put_told_count, put_told_fill, put_told_head, put_told_type};
 use words::{align_word, bit, put4, sign_word};
 
+// The word that is no name.
+const UNDERSCORE: u8 = b'_';
+
 // The place of an argument. `r` with a `#` after it and the word `_` are not told; both are looked for only where a word is one byte long.
 fn place(text: &[u8], at: usize) -> PartTold
     requires { Room text.now at }
@@ -39,7 +42,7 @@ fn place(text: &[u8], at: usize) -> PartTold
         if quick::is_raw(text, b, at, end) {
             return quick::untold(at);
         }
-        if b == b'_' {
+        if b == UNDERSCORE {
             return quick::untold(at);
         }
     }

@@ -42,6 +42,9 @@ pub fn left_spec(at: usize) -> SpecTold
     }
 }
 
+// The least digit that a width begins with here: `0` is a mark.
+const FIRST_OF_WIDTH: u8 = b'1';
+
 // The width of counts alone: none where they begin with the dot, else a number that does not begin with `0`, which would be a mark.
 fn short_width(text: &[u8], b: u8, at: usize) -> PartTold
     requires { Room text.now at × (b ≡ get_or text.now at 0) }
@@ -50,7 +53,7 @@ fn short_width(text: &[u8], b: u8, at: usize) -> PartTold
     if b == b'.' {
         return quick::nothing(at);
     }
-    if b < b'1' {
+    if b < FIRST_OF_WIDTH {
         return quick::untold(at);
     }
     if b'9' < b {

@@ -7,7 +7,7 @@ use Rattle.scan.specs.Words.{is_digit}
 use Rattle.quick.specs.PartsTold.{raw_word}
 use Rattle.quick.proofs.Parts.{place_unknown, place_number_lem, place_nothing, place_word}
 use Rattle.flawless.proofs.Closing.{no_blank, no_raw}
-use Rattle.flawless.proofs.place.Goals.{then-end-at-2+else-is_raw+else-b-eq95, else-end-at-2}
+use Rattle.flawless.proofs.place.Goals.{then-end-at-2+else-is_raw+else-b-eq-UNDERSCORE, else-end-at-2}
 use Rattle.flawless.proofs.place.Goals as goal
 
 pub number-requires : goal.number-requires
@@ -29,9 +29,9 @@ pub returns-then-is_raw : goal.returns-then-is_raw
 returns-then-is_raw c =
     rw c.untold.ensures (place_unknown c.requires.within, refl)
 
-pub returns-then-b-eq95 : goal.returns-then-b-eq95
-returns-then-b-eq95 c =
-    rw c.untold-then-b-eq95.ensures (place_unknown c.requires.within, refl)
+pub returns-then-b-eq-UNDERSCORE : goal.returns-then-b-eq-UNDERSCORE
+returns-then-b-eq-UNDERSCORE c =
+    rw c.untold-then-b-eq-UNDERSCORE.ensures (place_unknown c.requires.within, refl)
 
 pub returns : goal.returns
 returns c =
@@ -39,12 +39,12 @@ returns c =
     let t = c.args.text.now in
     let raw : raw_word t c.byte-b.result c.args.at c.word_end-end.result ≡ false =
     elim c.if-end-at-2.branch [
-      | then-end-at-2+else-is_raw+else-b-eq95 x ↦ sym x.is_raw.ensures ∙ x.if-is_raw.false
+      | then-end-at-2+else-is_raw+else-b-eq-UNDERSCORE x ↦ sym x.is_raw.ensures ∙ x.if-is_raw.false
       | else-end-at-2 x ↦ no_raw t _ _ _ x.if-end-at-2.false
     ] in
     let other : get_or t c.args.at 0 ≡ 0x5F → c.word_end-end.result ≡ c.args.at + 1 → ⊥ =
     elim c.if-end-at-2.branch [
-      | then-end-at-2+else-is_raw+else-b-eq95 x ↦ λ b _. x.if-b-eq95.false (e ∙ b)
+      | then-end-at-2+else-is_raw+else-b-eq-UNDERSCORE x ↦ λ b _. x.if-b-eq-UNDERSCORE.false (e ∙ b)
       | else-end-at-2 x ↦ λ _ q. x.if-end-at-2.false q
     ] in
     rw c.plain.ensures (
