@@ -1,4 +1,3 @@
--- Where two lists of bytes part (Partings), its laws, and what two plain forms that are the same say (Alike).
+-- Where two lists of bytes part (Partings), and its laws.
 pub mod Partings
 pub mod PartingLaws
-pub mod Alike

@@ -1,6 +1,4 @@
--- Joined texts: the words' definitions (Joins), worked cases (Cases), how many arguments a join wants (Wanting), the page (Joined) and its proof (Device).
+-- Joined texts: the words' definitions (Joins), worked cases (Cases). The page (Joined), how many arguments a join wants (Wanting) and the proof
+-- (Device) are in proofs/.
 pub mod Joins
-pub mod Wanting
 pub mod Cases
-pub mod Device
-pub mod Joined

@@ -1,2 +1,2 @@
-// Joined texts: definitions and theorems, in specs/. No code.
+// Joined texts: definitions, in specs/, and theorems, in proofs/. No code.
 #![tactic(auto)]

@@ -1,2 +1,2 @@
-// One way to write a template: definitions and theorems, in specs/. No code.
+// One way to write a template: definitions, in specs/, and theorems, in proofs/. No code.
 #![tactic(auto)]

@@ -1,6 +1,4 @@
--- The plain form, laid: what the parts are (Scribes), their laws (ScribeLaws), those of a run over a text's pieces (RunLaws), and that accepted
--- texts meet what is asked (InkLaws).
+-- The plain form, laid: what the parts are (Scribes), their laws (ScribeLaws), those of a run over a text's pieces (RunLaws).
 pub mod Scribes
 pub mod ScribeLaws
 pub mod RunLaws
-pub mod InkLaws

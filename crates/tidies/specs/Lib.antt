@@ -1,3 +1,2 @@
--- What the functions below the call come to (Placed), and that the call is these (PlacedLaws).
+-- What the functions below the call come to (Placed).
 pub mod Placed
-pub mod PlacedLaws

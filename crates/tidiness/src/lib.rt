@@ -1,4 +1,4 @@
-// A text's plain form as a call hands it out: what is answered, what the output then holds, and what holds of both. Definitions and theorems, in specs/; no functions.
+// A text's plain form as a call hands it out: what is answered, what the output then holds, and what holds of both. Definitions, in specs/, and theorems, in proofs/; no functions.
 #![tactic(auto)]
 
 // The answer to a call.

@@ -1,6 +1,6 @@
 -- `tidies::measured` meets its contract: where the pen stands after a plain form is how many bytes it has, whatever it is laid into.
 use native.Mathlib.Omega.{arith}
-use Rattle.tidies.specs.PlacedLaws.{ready_asked}
+use Rattle.tidies.proofs.PlacedLaws.{ready_asked}
 use Rattle.tidies.proofs.measured.Goals as goal
 
 pub put_text-requires : goal.put_text-requires

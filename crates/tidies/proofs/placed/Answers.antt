@@ -1,5 +1,5 @@
 -- `tidies::placed` meets its contract: an output as long as the text has room, and of another the measure tells.
-use Rattle.tidies.specs.PlacedLaws.{ready_room, without_room}
+use Rattle.tidies.proofs.PlacedLaws.{ready_room, without_room}
 use Rattle.tidies.proofs.placed.Goals as goal
 
 pub written-requires : goal.written-requires

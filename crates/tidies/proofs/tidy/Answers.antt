@@ -1,6 +1,6 @@
 -- `tidies::tidy` meets its contract: a refusal before the text is read, then errors, then the room for an accepted text's plain form.
 use Rattle.answer.specs.DecisionLaws.{opened_small}
-use Rattle.tidies.specs.PlacedLaws.{early, faulty, is_ready, by_room}
+use Rattle.tidies.proofs.PlacedLaws.{early, faulty, is_ready, by_room}
 use Rattle.tidies.proofs.tidy.Goals as goal
 
 pub returns-then-answer-ne0 : goal.returns-then-answer-ne0

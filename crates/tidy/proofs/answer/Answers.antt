@@ -1,5 +1,5 @@
 -- What is written fits the output.
-use Rattle.tidiness.specs.TidyLaws.{done_fits, done_taken}
+use Rattle.tidiness.proofs.TidyLaws.{done_fits, done_taken}
 use Rattle.tidy.proofs.answer.Goals as goal
 
 pub slice_bounds-write_all-end : goal.slice_bounds-write_all-end

@@ -10,10 +10,10 @@ use Rattle.grammar.specs.Grammar.{Element, Reading}
 use Rattle.grammar.specs.Pieces.{pieces_of}
 use Rattle.unique.specs.Device.Readings.{has_reading, no_error, its_pieces}
 use Rattle.joins.specs.Joins.{number_of_both, is_doubled, join, Premise}
-use Rattle.joins.specs.Device.Elements.{joined}
-use Rattle.joins.specs.Device.Bytes.{well_append, joined_reading}
-use Rattle.joins.specs.Device.Moves.{pieces_moved}
-use Rattle.joins.specs.Device.Meets as M
+use Rattle.joins.proofs.Device.Elements.{joined}
+use Rattle.joins.proofs.Device.Bytes.{well_append, joined_reading}
+use Rattle.joins.proofs.Device.Moves.{pieces_moved}
+use Rattle.joins.proofs.Device.Meets as M
 
 module _ (m : Mode) (t u : List ℕ) (f g h : Frame) (v : WellFormed t) (w : WellFormed u) where
   pub joined_errors : errors t f m ≡ [] → errors u g m ≡ [] → Premise m t u → errors (t ++ u) h m ≡ []

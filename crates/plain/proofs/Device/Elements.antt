@@ -16,7 +16,7 @@ use Rattle.unique.specs.Device.Made.{char_side, side_of_lem}
 use Rattle.unique.specs.Device.Given.{space_begins, typing_begins, precision_begins, width_begins, precision_dollar}
 use Rattle.unique.specs.Device.Splits.{format_split}
 use Rattle.pen.specs.Pens.{digits}
-use Rattle.plain.specs.Device.Digits.{first, others, digits_spell}
+use Rattle.plain.proofs.Device.Digits.{first, others, digits_spell}
 
 -- THE PLAIN FORM
 abbrev pub leading : ℕ → List ℕ → ℕ

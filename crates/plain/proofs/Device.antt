@@ -1,4 +1,4 @@
--- The proof of Plainly. Nothing that it states rests on this.
+-- The proof of PlainlyLaws. Nothing that it states rests on this.
 pub mod Digits
 pub mod Elements
 pub mod Says

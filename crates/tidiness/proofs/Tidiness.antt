@@ -8,11 +8,11 @@ use Rattle.frame.specs.declared.Frame.{Frame}
 use Rattle.reading.specs.Answers.{mode_of}
 use Rattle.reading.specs.Lists.{pieces}
 use Rattle.reading.specs.Wants.{wants}
-use Rattle.plain.specs.Plainly as plainly
+use Rattle.plain.proofs.PlainlyLaws as plainly
 use Rattle.plain.specs.Plainly.{Accepted, sayings}
 use Rattle.tidiness.specs.Tidies.{unstyled, plain_text, wanted, Tidies, Writable}
-use Rattle.tidiness.specs.SaidWants.{same_wants}
-use Rattle.tidiness.specs.TidyLaws.{passes, plain_fixed, plain_wanted, plain_short, plain_passed, its_number, done_passed, done_answer, done_bytes, done_arguments, done_output, refused_output, short_bytes, too_short}
+use Rattle.tidiness.proofs.SaidWants.{same_wants}
+use Rattle.tidiness.proofs.TidyLaws.{passes, plain_fixed, plain_wanted, plain_short, plain_passed, its_number, done_passed, done_answer, done_bytes, done_arguments, done_output, refused_output, short_bytes, too_short}
 use Rattle.tidiness.specs.declared.Tidied.{Tidied}
 
 -- what a call wrote: as many bytes of the output as its answer says

@@ -8,9 +8,9 @@ use Rattle.grammar.specs.Grammar.{FitsPosition, written_lead, written_sign, writ
 use Rattle.grammar.specs.Pieces.{past_precision, past_tail, past}
 use Rattle.unique.specs.Device.Runs.{never}
 use Rattle.plain.specs.Said as S
-use Rattle.plain.specs.Device.Digits.{digits_spell}
-use Rattle.plain.specs.Device.Elements.{leading, following, plain_width, plain_precision, plain_position, plain_format, unless_blank, plain_tail, plain_element, plainly}
-use Rattle.plain.specs.Device.Says.{of_position, of_width, of_precision, of_format, only_type, of_tail, of_element, of_all}
+use Rattle.plain.proofs.Device.Digits.{digits_spell}
+use Rattle.plain.proofs.Device.Elements.{leading, following, plain_width, plain_precision, plain_position, plain_format, unless_blank, plain_tail, plain_element, plainly}
+use Rattle.plain.proofs.Device.Says.{of_position, of_width, of_precision, of_format, only_type, of_tail, of_element, of_all}
 
 -- NUMBERS
 number_same : (d : ℕ) (r : List ℕ) → Number d r → Numeral.Within (value 0 (leading d r ∷ following d r)) ≡ Numeral.Within (value 0 (d ∷ r))

@@ -8,7 +8,7 @@ use Rattle.frame.specs.declared.Mode.{Mode}
 use Rattle.grammar.specs.Grammar.{Alignment, left, right, center, align_char, Element, run, opened, closed, placeholder, written_position, written_tail, written, written_all, utf8, Reading}
 use Rattle.unique.specs.Device.Splits.{Splits, both, codes, code, position_split, tail_split, split}
 use Rattle.joins.specs.Joins.{EndsInColon, StartsWithAlign, Premise}
-use Rattle.joins.specs.Device.Elements.{joined, Blank, Apart, joined_written, joined_fits}
+use Rattle.joins.proofs.Device.Elements.{joined, Blank, Apart, joined_written, joined_fits}
 
 -- WELL-FORMED BYTES, joined
 pub well_append : {q r : List ℕ} → WellFormed q → WellFormed r → WellFormed (q ++ r)

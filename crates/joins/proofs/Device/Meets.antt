@@ -13,7 +13,7 @@ use Rattle.grammar.specs.Pieces.{wide, size, end_of, tail_at, past_precision, pa
 use Rattle.unique.specs.Device.Splits.{split}
 use Rattle.unique.specs.Device.Stands.{size_append, size_split}
 use Rattle.joins.specs.Joins.{implicit_in, stars_in, number_of_both, is_doubled, meeting, meet}
-use Rattle.joins.specs.Device.Elements.{joined, met}
+use Rattle.joins.proofs.Device.Elements.{joined, met}
 
 -- WHERE ELEMENTS END, and the next argument's number past them
 abbrev pub end_all : ℕ → List Element → ℕ

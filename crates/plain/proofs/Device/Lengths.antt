@@ -7,9 +7,9 @@ use Rattle.grammar.specs.Grammar.{FitsPosition, written_position, written_width,
 use Rattle.grammar.specs.Pieces.{size}
 use Rattle.unique.specs.Device.Splits.{Splits, lead_split, sign_split, flag_split, typing_split, format_split}
 use Rattle.unique.specs.Device.Stands.{ascii, size_append, size_split}
-use Rattle.plain.specs.Device.Digits.{digits_spell, no_longer}
-use Rattle.plain.specs.Device.Elements.{leading, following, plain_width, plain_precision, plain_position, plain_format, unless_blank, plain_tail, plain_element, plainly}
-use Rattle.plain.specs.Device.Same.{is_format}
+use Rattle.plain.proofs.Device.Digits.{digits_spell, no_longer}
+use Rattle.plain.proofs.Device.Elements.{leading, following, plain_width, plain_precision, plain_position, plain_format, unless_blank, plain_tail, plain_element, plainly}
+use Rattle.plain.proofs.Device.Same.{is_format}
 
 -- DIGITS take a byte each
 digits_size : (l : List ℕ) → All Digit l → size l ≡ length l

@@ -27,11 +27,12 @@ use Rattle.answer.specs.declared.Decision.{Decision}
 use Rattle.pen.specs.Pens.{over, Fits, Laid}
 use Rattle.plain.specs.Said.{said}
 use Rattle.plain.specs.Plain.{plain_form}
-use Rattle.plain.specs.Plainly.{plain_of, no_longer}
+use Rattle.plain.specs.Plainly.{plain_of}
+use Rattle.plain.proofs.PlainlyLaws.{no_longer}
 use Rattle.scribe.specs.Scribes.{AllInked}
-use Rattle.scribe.specs.InkLaws.{accepted_inked, accepted_fits}
+use Rattle.scribe.proofs.InkLaws.{accepted_inked, accepted_fits}
 use Rattle.tidiness.specs.Tidies.{unstyled, plain_text, wanted, is_faulty, refused_as, answer_by, tidied_of, output_of, Tidies}
-use Rattle.tidiness.specs.TidyLaws.{empty}
+use Rattle.tidiness.proofs.TidyLaws.{empty}
 use Rattle.tidiness.specs.declared.Tidied.{Tidied}
 use Rattle.tidies.specs.Placed.{refused_by, written_by, Ready, Placed}
 

@@ -19,8 +19,9 @@ use Rattle.pen.specs.Pens.{Fits}
 use Rattle.pen.specs.PenLaws.{encode_four}
 use Rattle.plain.specs.Said.{said}
 use Rattle.plain.specs.Plain.{plain_form}
-use Rattle.plain.specs.Plainly.{Accepted, no_longer}
-use Rattle.plain.specs.Device.Codes.{Real, reals, behind}
+use Rattle.plain.specs.Plainly.{Accepted}
+use Rattle.plain.proofs.PlainlyLaws.{no_longer}
+use Rattle.plain.proofs.Device.Codes.{Real, reals, behind}
 use Rattle.scribe.specs.Scribes.{Inked, InkedPiece, AllInked}
 
 -- A CODE THAT A ROW SPELLS is below 110000 (hex)

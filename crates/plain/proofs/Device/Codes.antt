@@ -16,9 +16,9 @@ use Rattle.grammar.specs.Pieces.{wide}
 use Rattle.unique.specs.Device.Bytes.{code_sequence}
 use Rattle.unique.specs.Device.Splits.{format_split}
 use Rattle.unique.specs.Device.Stands.{wide_some}
-use Rattle.plain.specs.Device.Digits.{digits_spell}
-use Rattle.plain.specs.Device.Elements.{leading, following, plain_width, plain_precision, plain_position, plain_format, unless_blank, plain_tail, plain_element, plainly}
-use Rattle.plain.specs.Device.Same.{is_format}
+use Rattle.plain.proofs.Device.Digits.{digits_spell}
+use Rattle.plain.proofs.Device.Elements.{leading, following, plain_width, plain_precision, plain_position, plain_format, unless_blank, plain_tail, plain_element, plainly}
+use Rattle.plain.proofs.Device.Same.{is_format}
 
 -- A CODE that a row of the table spells
 abbrev pub Real : ℕ → Type 0

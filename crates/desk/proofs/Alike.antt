@@ -6,7 +6,7 @@ use Rattle.frame.specs.FrameLaws.{same_exactly}
 use Rattle.reading.specs.Answers.{mode_of}
 use Rattle.plain.specs.Plainly.{sayings}
 use Rattle.tidiness.specs.Tidies.{unstyled, Tidies}
-use Rattle.tidiness.specs.Tidiness.{wrote, exactly}
+use Rattle.tidiness.proofs.Tidiness.{wrote, exactly}
 use Rattle.tidiness.specs.declared.Tidied.{Tidied}
 
 pub alike_exactly : {t u out out' o o' : List ℕ} {mode : ℕ} {r s : Tidied} →

@@ -11,13 +11,13 @@ use Rattle.grammar.specs.Grammar.{written_position, FitsPosition, written_lead, 
 use Rattle.grammar.specs.Pieces.{wide, past, past_tail, align_of, sign_of, hex_of}
 use Rattle.unique.specs.Device.Splits.{format_split}
 use Rattle.unique.specs.Device.Stands.{wide_some}
-use Rattle.joins.specs.Device.Bytes.{utf8_append}
+use Rattle.joins.proofs.Device.Bytes.{utf8_append}
 use Rattle.pen.specs.Pens.{digits}
 use Rattle.plain.specs.Plain.{plain_place, plain_fill, plain_align, plain_sign, plain_flag, plain_count, after, plain_hex, plain_spec, doubled, plain_piece, plain_form}
-use Rattle.plain.specs.Device.Digits.{digits_spell}
-use Rattle.plain.specs.Device.Elements.{leading, following, plain_width, plain_precision, plain_position, plain_format, unless_blank, plain_tail, plain_element, plainly}
-use Rattle.plain.specs.Device.Says.{of_position, of_lead, of_width, of_precision, of_typing, of_format, of_tail, of_element, of_all}
-use Rattle.plain.specs.Device.Same.{is_format}
+use Rattle.plain.proofs.Device.Digits.{digits_spell}
+use Rattle.plain.proofs.Device.Elements.{leading, following, plain_width, plain_precision, plain_position, plain_format, unless_blank, plain_tail, plain_element, plainly}
+use Rattle.plain.proofs.Device.Says.{of_position, of_lead, of_width, of_precision, of_typing, of_format, of_tail, of_element, of_all}
+use Rattle.plain.proofs.Device.Same.{is_format}
 
 -- DIGITS are their own bytes
 digit_byte : (d : ℕ) → Digit d → encode d ≡ d ∷ []

@@ -17,8 +17,8 @@ use Rattle.grammar.specs.Grammar.{written_position, written_width, written_preci
 use Rattle.grammar.specs.Pieces.{size, bytes, bytes_at, end_of, tail_at, width_at, precision_at, type_at, past_tail, past, place_of, align_of, sign_of, type_text, hex_of, fill_of, count_of, precision_of, format_at, spec_at, after_place, argument_at, piece_at, pieces_of}
 use Rattle.unique.specs.Device.Splits.{Splits, both, codes, position_split, lead_split, sign_split, flag_split, width_split, precision_split, split}
 use Rattle.unique.specs.Device.Stands.{ascii, size_append}
-use Rattle.joins.specs.Device.Bytes.{utf8_append}
-use Rattle.joins.specs.Device.Meets.{utf8_length}
+use Rattle.joins.proofs.Device.Bytes.{utf8_append}
+use Rattle.joins.proofs.Device.Meets.{utf8_length}
 use Rattle.pen.specs.Pens.{text_of}
 use Rattle.plain.specs.Said as S
 use Rattle.plain.specs.Said.{SaidPlace, SaidFill, SaidCount, SaidSpec, SaidPiece, said_place, said_fill, said_count, said_spec, said_piece, said}

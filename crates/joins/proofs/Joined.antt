@@ -21,10 +21,10 @@ use Rattle.reading.specs.Calls.{rooms_of, Read}
 use Rattle.laws.specs.BrokenLaws.{well_whole}
 use Rattle.unique.specs.Device.Readings.{has_reading}
 use Rattle.joins.specs.Joins.{join, text_all, join_all, pieces_only, Premise}
-use Rattle.joins.specs.Device.Bytes.{well_append}
-use Rattle.joins.specs.Device.Texts.{joined_errors, joined_pieces}
-use Rattle.joins.specs.Device.Seams.{seam}
-use Rattle.joins.specs.Device.Calls.{is_done, is_utf8, no_errors, held_pieces, held_first, one_quote, joined_answer}
+use Rattle.joins.proofs.Device.Bytes.{well_append}
+use Rattle.joins.proofs.Device.Texts.{joined_errors, joined_pieces}
+use Rattle.joins.proofs.Device.Seams.{seam}
+use Rattle.joins.proofs.Device.Calls.{is_done, is_utf8, no_errors, held_pieces, held_first, one_quote, joined_answer}
 
 -- What holds of the texts t and u, the pieces ps and qs that they have, and the pieces rs and errors es of the joined text. (R12.1)
 pub record Joined (t u : List ℕ) (ps qs rs : List Piece) (es : List ErrorRecord) : Type 0 where

@@ -8,15 +8,15 @@ use Rattle.reading.specs.Lists.{pieces, errors}
 use Rattle.laws.specs.BrokenLaws.{well_whole}
 use Rattle.grammar.specs.Grammar.{Element, written_all, utf8, Reading}
 use Rattle.unique.specs.Device.Readings.{no_error, its_pieces}
-use Rattle.joins.specs.Device.Meets.{utf8_length}
+use Rattle.joins.proofs.Device.Meets.{utf8_length}
 use Rattle.plain.specs.Said.{said}
 use Rattle.plain.specs.Plain.{plain_form}
-use Rattle.plain.specs.Device.Elements.{plainly, plainly_fits}
-use Rattle.plain.specs.Device.Says.{of_all, pieces_said}
-use Rattle.plain.specs.Device.Same.{all_same}
-use Rattle.plain.specs.Device.Forms.{all_form}
-use Rattle.plain.specs.Device.Codes.{reals, well, plainly_real}
-use Rattle.plain.specs.Device.Lengths.{plainly_short}
+use Rattle.plain.proofs.Device.Elements.{plainly, plainly_fits}
+use Rattle.plain.proofs.Device.Says.{of_all, pieces_said}
+use Rattle.plain.proofs.Device.Same.{all_same}
+use Rattle.plain.proofs.Device.Forms.{all_form}
+use Rattle.plain.proofs.Device.Codes.{reals, well, plainly_real}
+use Rattle.plain.proofs.Device.Lengths.{plainly_short}
 
 -- what a text with a reading says
 read_said : (m : Mode) (t : List ℕ) (f : Frame) (es : List Element) → WellFormed t → Reading m t es → said t (pieces t f m) ≡ of_all 0 es

@@ -11,9 +11,9 @@ use Rattle.reading.specs.Lists.{pieces, errors}
 use Rattle.laws.specs.AnswerLaws.{not_long}
 use Rattle.laws.specs.BrokenLaws.{broken_exactly}
 use Rattle.pen.specs.PenLaws.{over_whole}
-use Rattle.plain.specs.Plainly as plainly
+use Rattle.plain.proofs.PlainlyLaws as plainly
 use Rattle.plain.specs.Plainly.{Accepted}
-use Rattle.tidiness.specs.SaidWants.{same_wants}
+use Rattle.tidiness.proofs.SaidWants.{same_wants}
 use Rattle.tidiness.specs.Tidies.{unstyled, plain_text, wanted, is_faulty, refused_as, answer_by, tidied_of, output_of, Tidies, Writable}
 use Rattle.tidiness.specs.declared.Tidied.{Tidied}
 
@@ -46,6 +46,15 @@ eleven false false false false true e = (refl, refl)
 eleven false false false false false e = absurd (omega (arith, e))
 
 module _ (t : List ℕ) (mode room : ℕ) where
+  -- the refusals in their order: "after 1, 3 and 4, number 10 for a text with errors, then 11 when the output is too short"
+  in_order : refused_as t mode room ≡
+      first_of (
+      refusal 1 (ltb 2 mode) ∷ refusal 3 (is_long t false []) ∷ refusal 4 (is_broken t) ∷ refusal 10 (is_faulty t mode) ∷
+      refusal 11 (ltb room (length (plain_text t mode))) ∷ []
+      )
+  unfolding refused_as
+  in_order = refl
+
   tests_passed : ltb 2 mode ≡ false → is_long t false [] ≡ false → is_broken t ≡ false → is_faulty t mode ≡ false →
       (o : ℕ) → length (plain_text t mode) ≤ o → Writable t mode o
   unfolding is_faulty
@@ -58,15 +67,13 @@ module _ (t : List ℕ) (mode room : ℕ) where
       }
 
   pub passed : refused_as t mode room ≡ 0 → Writable t mode room
-  unfolding refused_as
   passed e =
-      let h = none_held _ _ _ _ _ e in
+      let h = none_held _ _ _ _ _ (sym in_order ∙ e) in
       tests_passed h.0 h.1 h.2 h.3 room (ltb-false room (length (plain_text t mode)) h.4)
 
   -- 11: an output with room would do
   pub but_for_room : refused_as t mode room ≡ 11 → (o : ℕ) → length (plain_text t mode) ≤ o → Writable t mode o
-  unfolding refused_as
-  but_for_room e o f = let h = none_held _ _ _ _ _ (eleven _ _ _ _ _ e).0 in tests_passed h.0 h.1 h.2 h.3 o f
+  but_for_room e o f = let h = none_held _ _ _ _ _ (eleven _ _ _ _ _ (sym in_order ∙ e)).0 in tests_passed h.0 h.1 h.2 h.3 o f
 
   pub passes : Writable t mode room → refused_as t mode room ≡ 0
   unfolding refused_as is_faulty is_long first_of pick
@@ -109,6 +116,11 @@ module _ {t : List ℕ} {mode : ℕ} {out out' : List ℕ} {r : Tidied} (call : 
   unfolding tidied_of answer_by
   its_number = ap (λ (x : Tidied). x.number) call.answer
 
+  -- that was refused: the output
+  pub refused_output : ¬ (r.number ≡ 0) → out' ≡ out
+  unfolding output_of pick
+  refused_output n = call.output ∙ rw (ne_eqb _ _ (λ z. n (its_number ∙ z)))
+
   pub done_passed : r.number ≡ 0 → Writable t mode (length out)
   done_passed z = passed t mode (length out) (sym its_number ∙ z)
 
@@ -139,11 +151,7 @@ module _ {t : List ℕ} {mode : ℕ} {out out' : List ℕ} {r : Tidied} (call : 
   pub done_taken : r.number ≡ 0 → r.bytes ≡ length (take r.bytes out')
   done_taken z = omega (arith, done_fits z, length-take r.bytes out')
 
-  -- that was refused: the output, and for 11 the answer
-  pub refused_output : ¬ (r.number ≡ 0) → out' ≡ out
-  unfolding output_of pick
-  refused_output n = call.output ∙ rw (ne_eqb _ _ (λ z. n (its_number ∙ z)))
-
+  -- that was refused as 11: the answer
   pub short_bytes : r.number ≡ 11 → r.bytes ≡ length (plain_text t mode)
   unfolding tidied_of answer_by pick
   short_bytes e = ap (λ (x : Tidied). x.bytes) call.answer ∙ rw (sym its_number ∙ e)

@@ -1,0 +1,2 @@
+-- That accepted texts meet what is asked (InkLaws), by plain's page.
+pub mod InkLaws
