@@ -11,9 +11,9 @@ use Rattle.reading.specs.declared.Rooms.{Rooms}
 use Rattle.words.specs.Calls.{is_yes, rooms_in, pieces_in, errors_in, answer_words, is_short, Exported}
 use Rattle.uploads.specs.Parts.{held}
 use Rattle.uploads.specs.Finishes.{taken, finish_answer}
-use Rattle.uploads.specs.PartLaws.{Kept}
-use Rattle.uploads.specs.FinishLaws.{same_text, same_exit}
-use Rattle.uploads.specs.Cutting.{one_call}
+use Rattle.uploads.specs.Keeping.{Kept}
+use Rattle.uploads.proofs.FinishLaws.{same_text, same_exit}
+use Rattle.uploads.proofs.Cutting.{one_call}
 use Rattle.uploads.specs.declared.Upload.{Upload}
 use Rattle.arrivals.specs.Calls.{state_of, state_words, is_bare, lacks, Closed}
 

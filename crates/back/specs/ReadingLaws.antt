@@ -26,7 +26,7 @@ use Rattle.laws.specs.ListLaws.{gather_more, gather_one}
 use Rattle.laws.specs.RoomLaws.{few_pieces}
 use Rattle.scrolls.specs.AmongLaws.{Among, Every}
 use Rattle.scrolls.specs.FoundLaws.{RangeBetween, FaultBetween, found_in}
-use Rattle.scrolls.specs.ScrollLaws.{reading_scrolls}
+use Rattle.scrolls.proofs.ScrollLaws.{reading_scrolls}
 use Rattle.back.specs.Back.{Below, RangeFits, SpanFits, MaybeSpanFits, MaybeRangeFits, Fits, ErrorFits, All}
 use Rattle.back.specs.FitLaws.{In, in_fits, between_fits, across_fits, placeholder_fits}
 

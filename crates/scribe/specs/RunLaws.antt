@@ -12,7 +12,8 @@ use Rattle.turns.specs.Turns.{Fresh, first_cursor, pieces_at, pieces_turn, Piece
 use Rattle.turns.specs.TurnLaws.{first_pieces}
 use Rattle.turns.specs.declared.PieceTurn.{PieceTurn}
 use Rattle.pen.specs.Pens.{Fits, Laid}
-use Rattle.pen.specs.PenLaws.{Left, left_first, left_on, left_last, left_length}
+use Rattle.pen.specs.PenLaws.{Left, left_first, left_last}
+use Rattle.pen.proofs.Laying.{left_on, left_length}
 use Rattle.plain.specs.Said.{said_piece, said}
 use Rattle.plain.specs.Plain.{plain_piece, plain_form}
 use Rattle.scribe.specs.Scribes.{InkedPiece, AllInked}

@@ -8,7 +8,8 @@ use Rattle.scan.specs.declared.Count.{Count}
 use Rattle.scan.specs.declared.Numeral.{Numeral}
 use Rattle.placeholder.specs.declared.Argument.{Argument}
 use Rattle.pen.specs.Pens.{over, Fits, Laid, text_of}
-use Rattle.pen.specs.PenLaws.{over_none, laid_on, part_more, part_end, part_past}
+use Rattle.pen.specs.PenLaws.{over_none, part_more, part_end, part_past}
+use Rattle.pen.proofs.Laying.{laid_on}
 use Rattle.plain.specs.Said.{SaidSpec, said_place, said_count, said_spec}
 use Rattle.plain.specs.Plain.{plain_number, plain_place, after, plain_fill, plain_align, plain_sign, plain_flag, plain_count, plain_hex, plain_spec, doubled}
 use Rattle.scribe.specs.Scribes.{marks_of, counts_of, starts_with_brace, argument_of}

@@ -5,7 +5,8 @@ use Prim.Native.Nat.{ℕ, ◌*◌, ◌≤◌}
 use native.Mathlib.Omega.{arith}
 use lib.ListN.{length, get_or, take}
 use lib.Seq.{length-take-le}
-use Rattle.seasons.specs.TotalLaws.{plus_line, own_length, own_few}
+use Rattle.seasons.specs.TotalLaws.{plus_line, own_length}
+use Rattle.seasons.proofs.FewLaws.{own_few}
 use Rattle.seasons.specs.Totals.{own, plus}
 use Rattle.totals.specs.Adding.{Room}
 use Rattle.season.specs.Growing.{Grown}

@@ -1,7 +1,7 @@
--- The season's count: a text's totals (Totals), a list of texts (Season), worked cases (Cases), the page (Seasons) and its proof (SeasonLaws, TotalLaws).
+-- The season's count: a text's totals (Totals), a list of texts (Season, Rests), worked cases (Cases), and laws of totals (TotalLaws). The page (Seasons)
+-- and its proof stand in proofs/.
 pub mod Totals
 pub mod Season
+pub mod Rests
 pub mod Cases
 pub mod TotalLaws
-pub mod SeasonLaws
-pub mod Seasons

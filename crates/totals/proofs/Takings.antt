@@ -11,8 +11,10 @@ use lib.Dec.{eqb}
 use lib.Seq.{drop-cons, drop-drop, length-take-le, drop-length}
 use borrow.Author.Tests.{eqb-true, eqb-false}
 use Rattle.seasons.specs.Season.{two_bytes, IsList, Counted}
-use Rattle.seasons.specs.SeasonLaws.{two_one, Rest, rest_none, none_rest, rest_first, first_rest, list_rest, rest_list}
-use Rattle.seasons.specs.TotalLaws.{plus_line, own_length, sums_length, own_few, sums_few, sums_snoc}
+use Rattle.seasons.specs.Rests.{Rest}
+use Rattle.seasons.proofs.SeasonLaws.{two_one, rest_none, none_rest, rest_first, first_rest, list_rest, rest_list}
+use Rattle.seasons.specs.TotalLaws.{plus_line, own_length, sums_length, sums_snoc}
+use Rattle.seasons.proofs.FewLaws.{own_few, sums_few}
 use Rattle.seasons.specs.Totals.{own, plus, zeros, sums}
 use Rattle.seasons.specs.declared.Season.{Season}
 use Rattle.totals.specs.Adding.{Room}

@@ -1,7 +1,7 @@
 -- What taking a list apart comes to, a text at a time. No contract of a call cites this. Rests on seasons' laws of lists.
 use Rattle.std.specs.Prelude.{◌≡◌, ◌⊎◌, Bool, true, false, List, ℕ, suc, ◌+◌, ◌≤◌, length, take, drop}
 use Rattle.seasons.specs.Season.{two_bytes}
-use Rattle.seasons.specs.SeasonLaws.{Rest}
+use Rattle.seasons.specs.Rests.{Rest}
 use Rattle.seasons.specs.Totals.{sums}
 
 -- a text that stands at a place, behind its length, and ends at another

@@ -14,7 +14,7 @@ use Rattle.frame.specs.Places.{place, range_of}
 use Rattle.pen.specs.Pens.{over, text_of, Laid}
 use Rattle.pen.specs.PenLaws.{over_length}
 use Rattle.uploads.specs.Parts.{is_unfit, is_too_much, marked, grown, part_number, part_state, part_buffer, Part}
-use Rattle.uploads.specs.PartLaws.{fit_long}
+use Rattle.uploads.proofs.PartLaws.{fit_long}
 use Rattle.uploads.specs.declared.Upload.{Upload}
 use Rattle.uploads.specs.declared.Taken.{Taken}
 

@@ -1,8 +1,6 @@
--- A text that arrives in parts: what a part leaves (Parts), what the finish answers (Finishes), worked cases (Cases), the page (Cutting) and its proof
--- (PartLaws, FinishLaws).
+-- A text that arrives in parts: what a part leaves (Parts), that the parts are kept (Keeping), what the finish answers (Finishes) and worked cases (Cases).
+-- The page (Cutting) and its proof stand in proofs/.
 pub mod Parts
+pub mod Keeping
 pub mod Finishes
-pub mod PartLaws
-pub mod FinishLaws
 pub mod Cases
-pub mod Cutting

@@ -1,6 +1,6 @@
 -- `pen::put_four` meets its contract: the first byte, and then the others.
 use mathlib.Core.List.{[], ◌∷◌}
-use Rattle.pen.specs.PenLaws.{laid_on}
+use Rattle.pen.proofs.Laying.{laid_on}
 use Rattle.pen.proofs.put_four.Goals as goal
 
 pub returns : goal.returns

@@ -3,7 +3,8 @@ use mathlib.Core.List.{[], ◌∷◌}
 use mathlib.Core.Path.{ap}
 use native.Mathlib.Omega.{arith}
 use lib.ListN.{length}
-use Rattle.pen.specs.PenLaws.{laid_on, digits_one, digits_two, digits_three, digits_four, digits_five}
+use Rattle.pen.specs.PenLaws.{digits_one, digits_two, digits_three, digits_four, digits_five}
+use Rattle.pen.proofs.Laying.{laid_on}
 use Rattle.pen.proofs.put_number.Goals as goal
 
 pub put_byte-requires : goal.put_byte-requires

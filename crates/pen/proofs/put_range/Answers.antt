@@ -4,7 +4,8 @@ use mathlib.Core.Path.{ap}
 use borrow.Author.Tests.{ltb-true, ltb-false}
 use native.Mathlib.Omega.{arith}
 use lib.ListN.{length, get_or}
-use Rattle.pen.specs.PenLaws.{left_first, left_on, left_last, left_length, part_more, part_end, part_past}
+use Rattle.pen.specs.PenLaws.{left_first, left_last, part_more, part_end, part_past}
+use Rattle.pen.proofs.Laying.{left_on, left_length}
 use Rattle.pen.proofs.put_range.Goals as goal
 
 pub loop-i-init : goal.loop-i-init

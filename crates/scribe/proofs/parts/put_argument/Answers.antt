@@ -1,7 +1,7 @@
 -- `scribe::parts::put_argument` meets its contract: four parts, one after the other.
 use mathlib.Core.List.{[], ◌∷◌}
 use native.Mathlib.Omega.{arith}
-use Rattle.pen.specs.PenLaws.{laid_on}
+use Rattle.pen.proofs.Laying.{laid_on}
 use Rattle.plain.specs.Said.{said_spec}
 use Rattle.plain.specs.Plain.{plain_spec}
 use Rattle.scribe.specs.ScribeLaws.{after_length, argument_length}

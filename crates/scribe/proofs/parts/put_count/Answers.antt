@@ -1,5 +1,6 @@
 -- `scribe::parts::put_count` meets its contract, by what the count is.
-use Rattle.pen.specs.PenLaws.{laid_none, laid_on}
+use Rattle.pen.specs.PenLaws.{laid_none}
+use Rattle.pen.proofs.Laying.{laid_on}
 use Rattle.scribe.specs.ScribeLaws.{name_first, name_rest, number_first, number_rest}
 use Rattle.scribe.proofs.parts.put_count.Goals as goal
 

@@ -1,6 +1,6 @@
 -- `scribe::parts::put_counts` meets its contract: four parts, one after the other.
 use native.Mathlib.Omega.{arith}
-use Rattle.pen.specs.PenLaws.{laid_on}
+use Rattle.pen.proofs.Laying.{laid_on}
 use Rattle.plain.specs.Said.{said_spec}
 use Rattle.plain.specs.Plain.{plain_count}
 use Rattle.scribe.specs.ScribeLaws.{after_length, counts_length}

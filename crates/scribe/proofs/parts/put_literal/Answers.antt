@@ -5,7 +5,7 @@ use native.Mathlib.Omega.{arith}
 use borrow.Author.Tests.{not-true, not-false}
 use lib.ListN.{length}
 use Rattle.pen.specs.Pens.{text_of}
-use Rattle.pen.specs.PenLaws.{laid_on}
+use Rattle.pen.proofs.Laying.{laid_on}
 use Rattle.scribe.specs.ScribeLaws.{not_doubled, brace_there}
 use Rattle.scribe.proofs.parts.put_literal.Goals as goal
 

@@ -1,6 +1,6 @@
 -- `scribe::parts::put_marks` meets its contract: five parts, one after the other.
 use native.Mathlib.Omega.{arith}
-use Rattle.pen.specs.PenLaws.{laid_on}
+use Rattle.pen.proofs.Laying.{laid_on}
 use Rattle.plain.specs.Said.{said_spec}
 use Rattle.scribe.specs.ScribeLaws.{marks_length}
 use Rattle.scribe.proofs.parts.put_marks.Goals as goal

@@ -1,5 +1,5 @@
 -- THE PAGE OF TEXTS IN PARTS: however a text is cut, its parts and the finish come to what one call on the joined text comes to; and what the calls do
--- for any state and buffer leaves no choice. The definitions are Parts and Finishes; the work is in PartLaws and FinishLaws.
+-- for any state and buffer leaves no choice. The definitions are Parts, Finishes and Keeping; the work is in PartLaws and FinishLaws.
 use Rattle.std.specs.Prelude.{ℕ, ◌≤◌, ◌≡◌, true, List, [], ◌∷◌, ◌++◌, length}
 use Rattle.std.proofs.Common.{sym, ◌∙◌, ap, subst, append_assoc, append-nil}
 use Rattle.utf8.specs.Choice.{pick}
@@ -18,8 +18,9 @@ use Rattle.uploads.specs.declared.Upload.{Upload}
 use Rattle.uploads.specs.declared.Taken.{Taken}
 use Rattle.uploads.specs.Parts.{nothing, is_unfit, part_number, part_state, part_buffer, Part, Held, held, after, joined}
 use Rattle.uploads.specs.Finishes.{taken, finish_answer, Finished}
-use Rattle.uploads.specs.PartLaws.{Kept, kept_none, kept_part}
-use Rattle.uploads.specs.FinishLaws.{same_answer, same_text, same_exit}
+use Rattle.uploads.specs.Keeping.{Kept}
+use Rattle.uploads.proofs.PartLaws.{kept_none, kept_part}
+use Rattle.uploads.proofs.FinishLaws.{same_answer, same_text, same_exit}
 
 -- parts after others
 kept_after : (j : List ℕ) (h : Held) (ps : List (List ℕ)) → Kept j h → Kept (j ++ joined ps) (after h ps)

@@ -1,4 +1,4 @@
--- What a part leaves, where the parts so far are kept. Rests on Parts, on `pen`'s laws of laying and on `utf8`'s of the check.
+-- What a part leaves, where the parts so far are kept. Rests on Parts and Keeping, on `pen`'s laws of laying and on `utf8`'s of the check.
 use Rattle.std.specs.Prelude.{ℕ, zero, suc, ◌+◌, ◌≤◌, ◌<◌, ◌≡◌, refl, Bool, true, false, List, [], ◌∷◌, ◌++◌, ltb, length, take}
 use Rattle.std.proofs.Common.{sym, ◌∙◌, ap, true≢false, suc-add, zero-add, arith, length-append}
 use borrow.Author.Tests.{le-ltb, ltb-true, ltb-false}
@@ -8,7 +8,8 @@ use Rattle.utf8.specs.Utf8Laws.{valid_end, valid_join}
 use Rattle.pen.specs.Pens.{over}
 use Rattle.pen.specs.PenLaws.{over_length}
 use Rattle.uploads.specs.declared.Upload.{Upload}
-use Rattle.uploads.specs.Parts.{nothing, is_unfit, is_too_much, marked, grown, part_state, part_buffer, Held, held}
+use Rattle.uploads.specs.Parts.{nothing, is_unfit, is_too_much, marked, grown, part_state, part_buffer, held}
+use Rattle.uploads.specs.Keeping.{Kept}
 
 -- the bytes up to the end of what was laid: those before it, and it
 pub over_joins : (b : List ℕ) (k : ℕ) (p : List ℕ) → k + length p ≤ length b → take (k + length p) (over b k p) ≡ take k b ++ p
@@ -41,15 +42,6 @@ module _ (u : Upload) (b : List ℕ) (e : is_unfit u b ≡ false) where
   pub fit_long : 65535 ≤ length b
   unfolding is_unfit
   fit_long = ltb-false (length b) 65535 (either_right (ltb (length b) u.count) (ltb (length b) 65535) e)
-
--- THE PARTS SO FAR, joined to the text j, are kept in a state and its buffer
-pub record Kept (j : List ℕ) (h : Held) : Type 0 where
-  pub fits : is_unfit h.state h.buffer ≡ false
-  pub within : h.state.over ≡ false → length j ≤ 65535
-  pub bytes : h.state.over ≡ false → take h.state.count h.buffer ≡ j
-  pub count : h.state.over ≡ false → h.state.count ≡ length j
-  pub valid : h.state.over ≡ false → h.state.valid ≡ valid_prefix j
-  pub long : h.state.over ≡ true → 65535 < length j
 
 -- before the first part
 pub kept_none : (b : List ℕ) → 65535 ≤ length b → Kept [] (held nothing b)

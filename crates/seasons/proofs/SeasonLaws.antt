@@ -1,7 +1,8 @@
--- Laws of lists of texts: the first text of one and what is left, read one way only. Rests on Season.
+-- Laws of lists of texts: the first text of one and what is left, read one way only. Rests on Season and Rests.
 use Rattle.std.specs.Prelude.{◌≡◌, refl, List, [], ◌∷◌, ◌++◌, ℕ, zero, suc, ◌/◌, ◌%◌, ◌≤◌, length, get_or, take, drop}
 use Rattle.std.proofs.Common.{sym, ap, ◌∙◌, arith, length-append, take-append-drop, length-take-le, take_at, drop_at}
-use Rattle.seasons.specs.Season.{two_bytes, written, Short, IsList}
+use Rattle.seasons.specs.Season.{two_bytes, written, IsList}
+use Rattle.seasons.specs.Rests.{Rest, Headed}
 
 -- two bytes say one number
 pub two_one : (m n : ℕ) → two_bytes m ≡ two_bytes n → m ≡ n
@@ -14,12 +15,6 @@ two_one m n e =
 join : {a b c d : List ℕ} → a ≡ c → b ≡ d → a ++ b ≡ c ++ d
 join p q = cc
 
--- SO MANY TEXTS ARE LEFT of a list, in these bytes
-pub record Rest (k : ℕ) (bytes : List ℕ) (ts : List (List ℕ)) : Type 0 where
-  pub whole : bytes ≡ written ts
-  pub count : length ts ≡ k
-  pub short : Short ts
-
 -- where none is, the bytes are over
 pub rest_none : (bytes : List ℕ) (ts : List (List ℕ)) → Rest 0 bytes ts → bytes ≡ []
 unfolding written
@@ -30,16 +25,7 @@ pub none_rest : Rest 0 [] []
 unfolding written
 none_rest = record { whole = refl; count = refl; short = tt }
 
--- THE FIRST OF WHAT IS LEFT: its length stands before it, and it is followed by the others
-pub record Headed (k : ℕ) (bytes : List ℕ) (ts : List (List ℕ)) : Type 0 where
-  pub size : ℕ
-  pub others : List (List ℕ)
-  pub some : 2 ≤ length bytes
-  pub length_is : two_bytes size ≡ take 2 bytes
-  pub enough : size ≤ length (drop 2 bytes)
-  pub split : ts ≡ take size (drop 2 bytes) ∷ others
-  pub rest : Rest k (drop size (drop 2 bytes)) others
-
+-- THE FIRST OF WHAT IS LEFT
 pub rest_first : (k : ℕ) (bytes : List ℕ) (ts : List (List ℕ)) → Rest (suc k) bytes ts → Headed k bytes ts
 unfolding written
 rest_first k bytes [] r = absurd (omega (arith, r.count))

@@ -1,5 +1,5 @@
 -- THE PAGE OF THE SEASON'S COUNT: a list is read one way only, so bytes come to one thing; the totals are the sums, line by line; and of the
--- refusals of a reading none but 4 arises. The words' definitions are Totals and Season; the work is in SeasonLaws and TotalLaws.
+-- refusals of a reading none but 4 arises. The words' definitions are Totals and Season; the work is in SeasonLaws, TotalLaws and FewLaws.
 use Rattle.std.specs.Prelude.{◌≡◌, Bool, ℕ, ◌+◌, ◌≤◌, ◌<◌, get_or, drop}
 use Rattle.std.proofs.Math.Path.{refl, ap}
 use Rattle.std.proofs.Common.{sym, ◌∙◌, inl, inr, arith}
@@ -18,9 +18,10 @@ use Rattle.laws.specs.Deciding.{refused_as, room_for, counted_answer, answer_dec
 use Rattle.laws.specs.ListLaws.{no_places, no_lines}
 use Rattle.laws.specs.RoomLaws.{few_pieces, few_errors}
 use Rattle.seasons.specs.Totals.{counted_in, times, own, plain, sums}
-use Rattle.seasons.specs.TotalLaws.{tallied_line, plus_line, own_length, sums_length, sums_few}
+use Rattle.seasons.specs.TotalLaws.{tallied_line, plus_line, own_length, sums_length}
+use Rattle.seasons.proofs.FewLaws.{sums_few}
 use Rattle.seasons.specs.Season.{IsList, Counted}
-use Rattle.seasons.specs.SeasonLaws.{two_one, only_rest, list_rest}
+use Rattle.seasons.proofs.SeasonLaws.{two_one, only_rest, list_rest}
 use Rattle.seasons.specs.declared.Season.{Season}
 
 -- A LIST IS READ ONE WAY ONLY

@@ -1,4 +1,4 @@
--- The finish of parts that are kept answers what one call on the joined text answers. Rests on Finishes, PartLaws and the answer as it is decided.
+-- The finish of parts that are kept answers what one call on the joined text answers. Rests on Finishes, Keeping and the answer as it is decided.
 use Rattle.std.specs.Prelude.{ℕ, ◌<◌, ◌≡◌, refl, Bool, true, false, List, ltb, eqb, length}
 use Rattle.std.proofs.Math.Path.{sym}
 use Rattle.std.proofs.Common.{◌∙◌, ap, true≢false, lt-ltb, eqb-true}
@@ -14,7 +14,7 @@ use Rattle.reading.specs.declared.Rooms.{Rooms}
 use Rattle.uploads.specs.declared.Upload.{Upload}
 use Rattle.uploads.specs.Parts.{is_unfit, held}
 use Rattle.uploads.specs.Finishes.{taken, unless_carried, finish_answer}
-use Rattle.uploads.specs.PartLaws.{Kept}
+use Rattle.uploads.specs.Keeping.{Kept}
 
 -- what a finish that fits answers
 fitting : (u : Upload) (b s : List ℕ) (q : Request) (r : Rooms) → is_unfit u b ≡ false → finish_answer u b s q r ≡ unless_carried u (taken u b) s q (counted_answer (taken u b) s q r)

@@ -8,7 +8,7 @@ use Rattle.reading.specs.Answers.{frame_for}
 use Rattle.reading.specs.declared.Request.{Request}
 use Rattle.membership.specs.Members.{number, date, is_called, Is, format_pieces, Member, FirstBroken}
 use Rattle.membership.specs.Verdicts.{refused_as, judged_of}
-use Rattle.membership.specs.VerdictLaws.{is_yes_lem, is_broken_lem}
+use Rattle.membership.proofs.VerdictLaws.{is_yes_lem, is_broken_lem}
 use Rattle.membership.specs.declared.Verdict.{Verdict}
 
 -- A CALL THAT IS NOT REFUSED
