@@ -47,7 +47,12 @@ pub record OnTheCall (t s : List ℕ) (q : Request) (ps : List Piece) (es : List
   -- no error is counted exactly when the text has a reading
   pub counted : (r.counts.errors ≡ 0) ↔ ((els : List Element) × Reading (mode_for q) t els)
 
--- the offset of a call's frame
+-- the offset of a call's frame is its style's
+pub quote_of_style : (t s : List ℕ) (q : Request) → (frame_for t s q).quote ≡ quote_offset (style_of q.style)
+unfolding frame_for frame_of
+quote_of_style t s q = refl
+
+-- so it is the one asked for
 pub quote_is : (t s : List ℕ) (q : Request) → (frame_for t s q).quote ≡ quote_for q
 unfolding frame_for frame_of
 quote_is t s q = refl
@@ -69,7 +74,7 @@ on_the_call {t} {s} {q} x z =
       got_lines = held_lines x z;
       got_arguments = rw (held_pieces x z) (arguments_are x z);
       enough = rw (held_pieces x z) (numbers_below _ (pieces t f m) (le_of_eq (sym (arguments_are x z))));
-      demand = rw (held_pieces x z, held_errors x z, ← (quote_is t s q)) d;
+      demand = rw (held_pieces x z, held_errors x z, ← (quote_of_style t s q)) d;
       counted = (λ n. d.exactly.0 ((none_counted x z).0 n), λ e. (none_counted x z).1 (d.exactly.1 e));
     }
 

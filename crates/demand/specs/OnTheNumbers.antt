@@ -20,13 +20,13 @@ use Rattle.reading.specs.declared.Rooms.{Rooms}
 use Rattle.laws.specs.Deciding.{answer_passed}
 use Rattle.laws.specs.BrokenLaws.{broken_exactly}
 use Rattle.back.specs.Back.{piece_from, error_from, list_from}
-use Rattle.back.specs.CallBack.{call_back}
+use Rattle.back.proofs.DoneCall.{call_back}
 use Rattle.words.specs.Calls.{rooms_in, pieces_in, errors_in, answer_words, is_short, Exported}
 use Rattle.grammar.specs.Demand.{Demand}
 use Rattle.unique.specs.Demand3 as D
 use Rattle.grammar.specs.Numbering.{numbers}
 use Rattle.demand.specs.ArgumentLaws.{Below, numbers_below}
-use Rattle.demand.specs.OnTheCall.{quote_for, quote_is}
+use Rattle.demand.specs.OnTheCall.{quote_for, quote_of_style}
 
 -- the pieces and the errors that are read back, as many as the answer's third and fourth number say: 40 numbers a piece, 16 an error
 abbrev pub pieces_back : List ℕ → List ℕ → List Piece
@@ -88,7 +88,7 @@ on_the_numbers {t} {s} {q} {ps} {ps'} {es} {es'} {ls} {ls'} {ns} {ns'} {out} {ou
     let w = arguments_held a out out' (wants (pieces t f m)) k.held done.arguments in
     record {
       utf8 = v;
-      demand = rw (ps_back, es_back, ← (quote_is t s q)) (D.demand t f m v);
+      demand = rw (ps_back, es_back, ← (quote_of_style t s q)) (D.demand t f m v);
       arguments = rw ps_back w;
       enough = rw ps_back (numbers_below (get_or out' 6 0) (pieces t f m) (le_of_eq (sym w)));
     }

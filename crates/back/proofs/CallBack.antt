@@ -1,30 +1,21 @@
--- WHAT A CALLER READS BACK from the numbers of a done call: each piece and each error record, and the whole lists.
--- BackLaws reads a record back that fits, ReadingLaws says that those of a reading fit; here is that the frame of a done call is in bounds.
-use Rattle.std.specs.Prelude.{ℕ, ◌-◌, ◌≤◌, ◌≡◌}
+-- WHAT A CALLER READS BACK from the numbers of a reading: each piece and each error record, and the whole lists.
+-- BackLaws reads a record back that fits, ReadingLaws says that those of a reading fit; DoneCall says that the frame of a done call is in bounds.
+use Rattle.std.specs.Prelude.{ℕ, ◌-◌, ◌≡◌}
 use Rattle.std.proofs.Math.Path.{refl}
-use Rattle.std.proofs.Common.{ap₂, sym, ◌∙◌, true≢false, arith}
-use Rattle.std.proofs.Math.Bool.{Bool, true, false}
+use Rattle.std.proofs.Common.{ap₂}
 use mathlib.Core.List.{List, ◌∷◌, ◌++◌, append_assoc}
-use borrow.Author.Tests.{ltb-false}
-use Rattle.std.proofs.Math.ListN.{length, length-take}
+use Rattle.std.proofs.Math.ListN.{length}
 use Rattle.std.proofs.Math.Seq.{take_at, drop_at}
-use Rattle.utf8.specs.ChoiceLaws.{pick_elim}
-use Rattle.frame.specs.Frames.{body, end_of, frame_of}
 use Rattle.frame.specs.Bounds.{Small}
 use Rattle.frame.specs.declared.Frame.{Frame}
 use Rattle.frame.specs.declared.Mode.{Mode}
 use Rattle.reading.specs.Lists.{gather, pieces, errors}
 use Rattle.reading.specs.declared.ErrorRecord.{ErrorRecord}
 use Rattle.reading.specs.declared.Piece.{Piece}
-use Rattle.reading.specs.Answers.{is_long, frame_for, mode_for, answer_of}
-use Rattle.laws.specs.Deciding.{answer_passed}
-use Rattle.laws.specs.AnswerLaws.{small_frame, not_long}
-use Rattle.reading.specs.declared.Request.{Request}
-use Rattle.reading.specs.declared.Rooms.{Rooms}
 use Rattle.words.specs.Layout.{piece_words, error_words}
 use Rattle.words.specs.LaidLaws.{piece_words_length, error_words_length}
 use Rattle.back.specs.Back.{piece_from, error_from, list_from, Below, All}
-use Rattle.back.specs.BackLaws.{piece_back, error_back}
+use Rattle.back.proofs.BackLaws.{piece_back, error_back}
 use Rattle.back.specs.ReadingLaws.{pieces_fit, errors_fit}
 
 -- what follows for each of a list from what holds of it
@@ -40,32 +31,6 @@ module _ {A : Type 0} (size : ℕ) (from : List ℕ → A) (words : A → List �
   list_back (All.more {x = x} {xs = xs} h r) rest =
       rw (append_assoc, take_at (words x) (gather words xs ++ rest) size (sized x), drop_at (words x) (gather words xs ++ rest) size (sized x))
       (ap₂ ◌∷◌ h (list_back r rest))
-
-module _ (t s : List ℕ) where
-  -- a snippet that is given and not too long is within the limit
-  snippet_short : (given : Bool) → is_long t given s ≡ false → given ≡ true → length s ≤ 66048
-  unfolding is_long
-  snippet_short given =
-      let P : Bool → Type 0 = λ b. b ≡ false → given ≡ true → length s ≤ 66048 in
-      pick_elim P _ (λ _ e. absurd (true≢false e))
-      (λ _. pick_elim P _ (λ _ e _. ltb-false 66048 (length s) e) (λ n _ g. absurd (true≢false (sym g ∙ n))))
-
-  -- the text less an appended newline is no longer
-  body_short : (newline : Bool) → length (body t newline) ≤ length t
-  unfolding body
-  body_short newline =
-      pick_elim (λ (l : List ℕ). length l ≤ length t) newline (λ _. omega (arith, length-take (length t - 1) t)) (λ _. omega arith)
-
-  module _ (q : Request) where
-    -- so "end" is in bounds
-    end_below : is_long t q.given s ≡ false → Below (frame_for t s q).end.0
-    unfolding frame_for frame_of end_of
-    end_below e =
-        pick_elim Below q.given
-        (λ g.
-        let short = snippet_short q.given e g in
-        pick_elim Below _ (λ _. omega arith) (λ _. omega arith))
-        (λ _. omega (arith, body_short q.newline, not_long t q.given s e))
 
 -- A DONE CALL: each of its pieces and error records is what is read back from its numbers, and so are the lists of them
 pub record CallBack (ps : List Piece) (es : List ErrorRecord) : Type 0 where
@@ -86,10 +51,3 @@ reading_back t f m small end =
       pieces = list_back 40 piece_from piece_words piece_words_length ps;
       errors = list_back 16 error_from error_words error_words_length es;
     }
-
--- THE THEOREM
-pub call_back : (t s : List ℕ) (q : Request) (r : Rooms) → (answer_of t s q r).number ≡ 0 →
-    CallBack (pieces t (frame_for t s q) (mode_for q)) (errors t (frame_for t s q) (mode_for q))
-call_back t s q r z =
-    let short = (answer_passed t s q r z).short in
-    reading_back t (frame_for t s q) (mode_for q) (small_frame t s q (not_long t q.given s short)) (end_below t s q short)
