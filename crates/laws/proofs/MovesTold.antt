@@ -32,7 +32,6 @@ use Rattle.reading.specs.declared.Onward.{Onward}
 use Rattle.laws.specs.StateLaws.{standing, last_state}
 use Rattle.laws.specs.StepLaws.{Later, step_later, steps_none}
 use Rattle.laws.specs.WalkLaws.{steps_on, steps_over}
-
 use Rattle.laws.specs.MoveLaws.{given_by, given_in, given, stop_of, lone, moves_told, given_over}
 
 -- a placeholder's range goes to where reading stood afterwards
