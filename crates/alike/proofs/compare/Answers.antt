@@ -1,5 +1,5 @@
 -- What is written fits its output.
-use Rattle.tidiness.specs.TidyLaws.{done_fits, done_taken}
+use Rattle.tidiness.proofs.TidyLaws.{done_fits, done_taken}
 use Rattle.alike.proofs.compare.Goals as goal
 
 pub slice_bounds-put_likeness-end : goal.slice_bounds-put_likeness-end
