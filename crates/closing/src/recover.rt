@@ -394,7 +394,8 @@ pub fn recover(
     ensures { result ≡ recover_read text.now frame mode from identifier at next }
 {
     let past = scan::past(text, at);
-    if text.len() <= past.0 {
+    let second = past.0;
+    if text.len() <= second {
         return passed_to(at, next, Hint::Silent);
     }
     if scan::peek_is(text, at, b'?') {

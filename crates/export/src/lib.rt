@@ -92,7 +92,8 @@ fn counted(
     let told = tally::tally(text, chars, frame, mode);
     let counts = told.counts;
     let number = room_for(counts, rooms);
-    if number == 0 {
+    let done = number == 0;
+    if done {
         fills::run::fill(text, frame, mode, pieces, errors);
         fill_places(text, frame, mode, places);
         fill_lines(text, frame, mode, lines);

@@ -61,12 +61,15 @@ fn start_below_1000(c: u32) -> bool
     in_table(&part, c)
 }
 
+// Where the first part ends: the letter U+1700 is of the next.
+const FIRST_PART: u32 = 0x1700;
+
 fn start_below_3000(c: u32) -> bool
     requires le_c { 0x1000 ≤ c }
     requires c_bound { c < 0x3000 }
     ensures { result ≡ is_start c }
 {
-    if c < 0x1700 {
+    if c < FIRST_PART {
         let part = crate::tables::START_BELOW_1700;
         return in_table(&part, c);
     }

@@ -8,6 +8,9 @@ use answer::decide::{decide_by, fresh};
 use reading::{Answer, ErrorRecord, Piece, Request, Rooms};
 use spans::{fill_lines, fill_places};
 
+// The number of a call that is done.
+const DONE: u8 = 0;
+
 // Reads a text, of which something may be known, into four lists; a span takes two numbers of its list. A refusal changes no list.
 // A text whose count of errors is 0 is not read for them.
 pub fn read_by(
@@ -29,7 +32,7 @@ pub fn read_by(
     };
     let decision = decide_by(text, snippet, asked, rooms);
     let answer = decision.answer;
-    if answer.number == 0 {
+    if answer.number == DONE {
         let frame = decision.frame;
         let mode = decision.mode;
         fill_pieces(text, frame, mode, pieces);

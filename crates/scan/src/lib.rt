@@ -262,6 +262,9 @@ pub fn span_across(text: &[u8], frame: Frame, first: TextPlace, last: TextPlace)
     Span { start, end }
 }
 
+// The first byte that is no ASCII character.
+const BEYOND_ASCII: u8 = 0x80;
+
 // Where the word at a place ends. One in ASCII is passed by its bytes; one with other letters goes on from there.
 pub fn word_end(text: &[u8], at: TextPlace) -> TextPlace
     ensures { result ≡ word_end text.now at }
@@ -275,7 +278,7 @@ pub fn word_end(text: &[u8], at: TextPlace) -> TextPlace
         return at;
     }
     let end = letters::ascii_continue_end(text, i + 1);
-    if 0x80 <= utf8::byte(text, end) {
+    if BEYOND_ASCII <= utf8::byte(text, end) {
         return word_from(text, at, end);
     }
     TextPlace(end)

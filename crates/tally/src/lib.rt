@@ -271,7 +271,8 @@ fn pass_piece(text: &[u8], frame: Frame, mode: Mode, state: State) -> Passed
     requires { Small text.now frame × (state.next < 0xFFFFE) }
     ensures { Passes text.now frame mode state result × (result.on ≡ true → frame.literal ≡ false) }
 {
-    if frame.literal {
+    let source = frame.literal;
+    if source {
         return passing::stay(state);
     }
     passing::pass(text, frame, mode, state)

@@ -61,6 +61,9 @@ fn placed(out: &mut [u8], text: &[u8], frame: Frame, mode: Mode, arguments: usiz
     written(out, text, frame, mode, arguments)
 }
 
+// How many errors an accepted text has.
+const NO_ERROR: usize = 0;
+
 // The plain form of a text, read with no style, no snippet and no newline marked, over the start of a lent output; or why not.
 pub fn tidy(text: &[u8], mode: u8, out: &mut [u8]) -> Tidied
     ensures { Tidies text.now mode out.old out.new result }
@@ -79,7 +82,7 @@ pub fn tidy(text: &[u8], mode: u8, out: &mut [u8]) -> Tidied
         return refused(answer.number, answer.place, 0);
     }
     let told = tally::tally(text, first.chars, frame, grammar);
-    if 0 < told.counts.errors {
+    if NO_ERROR < told.counts.errors {
         return refused(10, 0, 0);
     }
     placed(out, text, frame, grammar, told.arguments)

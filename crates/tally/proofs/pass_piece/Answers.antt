@@ -4,5 +4,5 @@ use mathlib.Core.Bool.{true≢false}
 use Rattle.passing.proofs.Passings.{not_on, stays}
 use Rattle.tally.proofs.pass_piece.Goals as goal
 
-pub returns-then-frame : goal.returns-then-frame
-returns-then-frame c = (stays _ _ _ _ (not_on c.stay.ensures), λ y. absurd (true≢false (sym y ∙ not_on c.stay.ensures)))
+pub returns-then-source : goal.returns-then-source
+returns-then-source c = (stays _ _ _ _ (not_on c.stay.ensures), λ y. absurd (true≢false (sym y ∙ not_on c.stay.ensures)))

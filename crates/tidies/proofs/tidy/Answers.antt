@@ -11,15 +11,15 @@ tally-told-requires c =
     let opened = c.opened-first.ensures in
     (opened_small _ _ _ opened c.if-answer-ne0.false, opened.chars c.if-answer-ne0.false)
 
-pub returns-then-told-gt0 : goal.returns-then-told-gt0
-returns-then-told-gt0 c =
-    faulty _ _ c.opened-first.ensures c.if-answer-ne0.false c.tally-told.ensures.0 c.if-told-gt0.true c.refused-then-told-gt0.ensures
+pub returns-then-told-gt-NO_ERROR : goal.returns-then-told-gt-NO_ERROR
+returns-then-told-gt-NO_ERROR c =
+    faulty _ _ c.opened-first.ensures c.if-answer-ne0.false c.tally-told.ensures.0 c.if-told-gt-NO_ERROR.true c.refused-then-told-gt-NO_ERROR.ensures
 
 pub placed-requires : goal.placed-requires
 placed-requires c =
-    is_ready _ _ c.opened-first.ensures c.if-answer-ne0.false c.tally-told.ensures.0 c.if-told-gt0.false
+    is_ready _ _ c.opened-first.ensures c.if-answer-ne0.false c.tally-told.ensures.0 c.if-told-gt-NO_ERROR.false
 
 pub returns : goal.returns
 returns c =
-    by_room _ _ c.opened-first.ensures c.if-answer-ne0.false c.tally-told.ensures.0 c.if-told-gt0.false c.tally-told.ensures.1
+    by_room _ _ c.opened-first.ensures c.if-answer-ne0.false c.tally-told.ensures.0 c.if-told-gt-NO_ERROR.false c.tally-told.ensures.1
     c.placed.ensures

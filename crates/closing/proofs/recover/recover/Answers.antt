@@ -5,10 +5,10 @@ use Rattle.utf8.specs.Choice.{pick}
 use Rattle.closing.specs.Recovering.{recovering, recover_table}
 use Rattle.closing.proofs.recover.recover.Goals as goal
 
-pub returns-then-text-past : goal.returns-then-text-past
+pub returns-then-text-second : goal.returns-then-text-second
 unfolding pick recovering
-returns-then-text-past c =
-    rw (recover_table, ← c.past-past.ensures, le-ltb _ _ c.if-text-past.true, ← c.passed_to.ensures)
+returns-then-text-second c =
+    rw (recover_table, ← c.past-past.ensures, le-ltb _ _ c.if-text-second.true, ← c.passed_to.ensures)
 
 pub returns-then-peek_is : goal.returns-then-peek_is
 unfolding pick recovering
@@ -16,7 +16,7 @@ returns-then-peek_is c =
     rw (
       recover_table,
       ← c.past-past.ensures,
-      lt-ltb _ _ c.if-text-past.false,
+      lt-ltb _ _ c.if-text-second.false,
       ← c.peek_is.ensures,
       c.if-peek_is.true,
       ← c.after_question.ensures,
@@ -28,7 +28,7 @@ returns-then-not-is_silent c =
     rw (
       recover_table,
       ← c.past-past.ensures,
-      lt-ltb _ _ c.if-text-past.false,
+      lt-ltb _ _ c.if-text-second.false,
       ← c.peek_is.ensures,
       c.if-peek_is.false,
       ← c.sign_hint-hint.ensures,
@@ -43,7 +43,7 @@ returns-then-identifier c =
     rw (
       recover_table,
       ← c.past-past.ensures,
-      lt-ltb _ _ c.if-text-past.false,
+      lt-ltb _ _ c.if-text-second.false,
       ← c.peek_is.ensures,
       c.if-peek_is.false,
       ← c.sign_hint-hint.ensures,
@@ -59,7 +59,7 @@ returns c =
     rw (
       recover_table,
       ← c.past-past.ensures,
-      lt-ltb _ _ c.if-text-past.false,
+      lt-ltb _ _ c.if-text-second.false,
       ← c.peek_is.ensures,
       c.if-peek_is.false,
       ← c.sign_hint-hint.ensures,

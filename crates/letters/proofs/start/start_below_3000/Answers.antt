@@ -11,9 +11,9 @@ pub in_table-requires : goal.in_table-requires
 unfolding ascending
 in_table-requires c = tt
 
-pub returns-then-c-lt5888 : goal.returns-then-c-lt5888
+pub returns-then-c-lt-FIRST_PART : goal.returns-then-c-lt-FIRST_PART
 unfolding is_start between pick start
-returns-then-c-lt5888 c = c.in_table.ensures ∙ between_holds 0x1000 0x1700 start _ c.requires.le_c c.if-c-lt5888.true
+returns-then-c-lt-FIRST_PART c = c.in_table.ensures ∙ between_holds 0x1000 0x1700 start _ c.requires.le_c c.if-c-lt-FIRST_PART.true
 
 pub in_table-requires-then-c-lt7424 : goal.in_table-requires-then-c-lt7424
 unfolding ascending
@@ -21,7 +21,7 @@ in_table-requires-then-c-lt7424 c = tt
 
 pub returns-then-c-lt7424 : goal.returns-then-c-lt7424
 unfolding is_start between pick start
-returns-then-c-lt7424 c = c.in_table-then-c-lt7424.ensures ∙ between_holds 0x1700 0x1D00 start _ c.if-c-lt5888.false c.if-c-lt7424.true
+returns-then-c-lt7424 c = c.in_table-then-c-lt7424.ensures ∙ between_holds 0x1700 0x1D00 start _ c.if-c-lt-FIRST_PART.false c.if-c-lt7424.true
 
 pub in_table-requires-then-c-lt11264 : goal.in_table-requires-then-c-lt11264
 unfolding ascending
