@@ -4,7 +4,6 @@
 
 use reading::{Hashes, Request, Rooms};
 use std::io;
-use std::io::BufWriter;
 
 fn main(rt: HostRuntime) -> io::Result<()> {
     // One byte more than the longest text that is read: a longer input is read far enough to be refused as 3.
@@ -24,7 +23,7 @@ fn main(rt: HostRuntime) -> io::Result<()> {
     };
     let decision = answer::decide::decide(&text[..length], b"", request, rooms);
     let answer = decision.answer;
-    let mut out = BufWriter::with_capacity(rt.alloc(), 65536, rt.stdout())?;
+    let mut out = rt.stdout();
     if answer.number == 0 {
         report::short(&mut out, &text[..length], b"", request)?;
     } else {

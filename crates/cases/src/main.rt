@@ -7,7 +7,7 @@ ghost use Rattle.std.specs.Io.{ReadsAtMost};
 
 use reading::{Hashes, Request, Rooms};
 use std::io;
-use std::io::{BufWriter, Read, Write};
+use std::io::{Read, Write};
 
 // More cases than any stream has. A proved loop has to end, and nothing says that a stream does.
 const MOST: usize = 0xFFFFFFFFFFFF;
@@ -16,7 +16,7 @@ fn main(rt: HostRuntime) -> io::Result<()> {
     // The longest snippet and the longest text of a case.
     let mut snippet = [0u8; 66560];
     let mut text = [0u8; 66560];
-    let mut out = BufWriter::with_capacity(rt.alloc(), 65536, rt.stdout())?;
+    let mut out = rt.stdout();
     every_case(&mut rt.stdin(), &mut out, &mut snippet, &mut text)?;
     listing::flush(&mut out)
 }

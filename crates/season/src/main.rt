@@ -15,10 +15,13 @@ fn main(rt: HostRuntime) -> io::Result<()> {
     let mut text = [0u8; 65536];
     let mut totals = [0usize; 24];
     let mut out = rt.stdout();
-    if every_text(&mut rt.stdin(), &mut rt.stderr(), &mut text, &mut totals)? {
-        report(&mut out, totals)
-    } else {
-        out.write_all(b"answer 25 0\n")
+    match every_text(&mut rt.stdin(), &mut rt.stderr(), &mut text, &mut totals) {
+        Ok(true) => report(&mut out, totals),
+        Ok(false) => out.write_all(b"answer 25 0\n"),
+        Err(failed) => {
+            out.write_all(b"answer 25 0\n")?;
+            Err(failed)
+        }
     }
 }
 
@@ -86,7 +89,8 @@ fn next_text<R: Read>(
     totals: &mut [usize],
 ) -> io::Result<usize>
     requires { (size ≤ 65535) × (length totals.old ≡ 24) × Room 0x100000 totals.old }
-    ensures { IfOk result (λ n. Grown totals.old totals.new × (n ≤ 65536)) }
+    ensures grown { Grown totals.old totals.new }
+    ensures next { IfOk result (λ n. n ≤ 65536) }
 {
     let after = behind(text.len(), size, more);
     let got = part(input, text, size + after)?;

@@ -1,23 +1,28 @@
 -- A text's own totals are small, and a length has two bytes.
-use Rattle.std.proofs.Common.{ℕ, Result, Ok, Err, IfOk, arith, take}
+use Rattle.std.proofs.Common.{arith, take}
 use Rattle.season.proofs.Growth.{take_short, grown_own}
 use Rattle.season.proofs.next_text.Goals as goal
-
-also : {E Q : Type 0} → (P : ℕ → Type 0) → (r : Result ℕ E) → Q → IfOk r P → IfOk r (λ n. Q × P n)
-also P (Ok n) q p = (q, p)
-also P (Err e) q p = tt
 
 pub returns-then-after-eq2 : goal.returns-then-after-eq2
 returns-then-after-eq2 g c =
     let short = take_short c.args.size c.part.new.buffer (omega (arith, c.if-got-size.false)) c.in_ok-got.ensures.0 c.requires.0 in
-    (grown_own c.args.totals.now (take c.args.size c.part.new.buffer) c.requires.1 short c.add_text.auto.totals c.add_text.ensures, omega (arith, c.two.ensures.0))
+    record {
+      grown = grown_own c.args.totals.now (take c.args.size c.part.new.buffer) c.requires.1 short c.add_text.auto.totals c.add_text.ensures;
+      next = omega (arith, c.two.ensures.0);
+    }
 
 pub returns-then-more : goal.returns-then-more
 returns-then-more g c =
     let short = take_short c.args.size c.part.new.buffer (omega (arith, c.if-got-size.false)) c.in_ok-got.ensures.0 c.requires.0 in
-    also _ c.number.result (grown_own c.args.totals.now (take c.args.size c.part.new.buffer) c.requires.1 short c.add_text.auto.totals c.add_text.ensures) c.number.ensures
+    record {
+      grown = grown_own c.args.totals.now (take c.args.size c.part.new.buffer) c.requires.1 short c.add_text.auto.totals c.add_text.ensures;
+      next = c.number.ensures;
+    }
 
 pub returns : goal.returns
 returns g c =
     let short = take_short c.args.size c.part.new.buffer (omega (arith, c.if-got-size.false)) c.in_ok-got.ensures.0 c.requires.0 in
-    (grown_own c.args.totals.now (take c.args.size c.part.new.buffer) c.requires.1 short c.add_text.auto.totals c.add_text.ensures, omega arith)
+    record {
+      grown = grown_own c.args.totals.now (take c.args.size c.part.new.buffer) c.requires.1 short c.add_text.auto.totals c.add_text.ensures;
+      next = omega arith;
+    }
