@@ -3,143 +3,106 @@
 // why, and standard output stays empty.
 #![tactic(auto)]
 
-ghost use Rattle.std.specs.Prelude.{◌≡◌, ◌≤◌, length, take, IfOk};
+ghost use Rattle.std.specs.Prelude.{◌≡◌, ◌≤◌, length, take, IfOk, IfSome};
 ghost use Rattle.std.specs.Io.{ReadsAtMost};
 ghost use Rattle.frame.specs.Bounds.{Small};
 
-use desk::{equal, say};
 use frame::{Frame, Mode, TextRange};
-use reading::{Hashes, Piece, Request};
+use reading::{Piece, Request};
 use std::env::Env;
 use std::fs::File;
 use std::io;
 use std::io::Write;
 use std::rt::Files;
-use turns::PieceTurn;
-
-// What is compared of a turn: whether it has a piece, of which sort, and its bytes.
-#[derive(Clone, Copy)]
-struct PieceSeen {
-    more: bool,
-    literal: bool,
-    range: TextRange,
-}
 
 // What two runs over pieces have where they part, and how many pieces they had before.
 #[derive(Clone, Copy)]
 struct Apart {
     piece: usize,
-    one: PieceSeen,
-    two: PieceSeen,
+    one: Option<Piece>,
+    two: Option<Piece>,
 }
 
-// A file that was read, or could not be.
-#[derive(Clone, Copy)]
-struct Taken {
-    there: bool,
-    length: usize,
-}
-
-fn put<W: Write>(out: &mut W, words: &[u8]) -> io::Result<()> {
-    out.write_all(words)
-}
-
-fn seen_in(turn: PieceTurn) -> PieceSeen {
-    let more = turn.more;
-    let piece = turn.piece;
+// The bytes of a piece.
+fn range_of(piece: Piece) -> TextRange {
     match piece {
-        Piece::Literal(range) => PieceSeen {
-            more,
-            literal: true,
-            range,
-        },
-        Piece::Placeholder(argument) => {
-            let range = argument.range;
-            PieceSeen {
-                more,
-                literal: false,
-                range,
+        Piece::Literal(view) => view,
+        Piece::Placeholder(argument) => argument.range,
+    }
+}
+
+// Whether two pieces are of one sort and written with the same bytes.
+fn is_same(one: &[u8], a: Piece, two: &[u8], b: Piece) -> bool {
+    let one_sort = match (a, b) {
+        (Piece::Literal(_), Piece::Literal(_)) => true,
+        (Piece::Placeholder(_), Piece::Placeholder(_)) => true,
+        _ => false,
+    };
+    one_sort
+        && steps::text::literal_text(one, range_of(a))
+            == steps::text::literal_text(two, range_of(b))
+}
+
+// The first pieces that are not the same, or one that the other text has none for.
+fn first_apart(one: &[u8], f: Frame, two: &[u8], g: Frame, mode: Mode) -> Apart
+    requires { Small one.now f × Small two.now g }
+{
+    let mut c = turns::first_cursor(one);
+    let mut d = turns::first_cursor(two);
+    let mut i = 0;
+    loop {
+        let a = turns::next_piece(one, f, mode, c);
+        let b = turns::next_piece(two, g, mode, d);
+        match (a, b) {
+            (Some(a), Some(b)) if i < one.len() && is_same(one, a.piece, two, b.piece) => {
+                c = a.cursor;
+                d = b.cursor;
+                i += 1;
+            }
+            _ => {
+                return Apart {
+                    piece: i,
+                    one: a.map(|turn| turn.piece),
+                    two: b.map(|turn| turn.piece),
+                };
             }
         }
     }
 }
 
-// Whether two turns both have a piece, of one sort and written with the same bytes.
-fn is_same(one: &[u8], a: PieceSeen, two: &[u8], b: PieceSeen) -> bool {
-    if !a.more {
-        return false;
-    }
-    if !b.more {
-        return false;
-    }
-    if a.literal != b.literal {
-        return false;
-    }
-    equal(
-        steps::text::literal_text(one, a.range),
-        steps::text::literal_text(two, b.range),
-    )
-}
-
-// The first turns that are not the same. A run has no more pieces than its text has bytes.
-fn first_apart(one: &[u8], f: Frame, two: &[u8], g: Frame, mode: Mode) -> Apart
-    requires { Small one.now f × Small two.now g }
-{
-    let mut a = turns::next_piece(one, f, mode, turns::first_cursor(one));
-    let mut b = turns::next_piece(two, g, mode, turns::first_cursor(two));
-    let mut i = 0;
-    while is_same(one, seen_in(a), two, seen_in(b)) {
-        if one.len() <= i {
-            break;
-        }
-        let c = a.cursor;
-        let d = b.cursor;
-        a = turns::next_piece(one, f, mode, c);
-        b = turns::next_piece(two, g, mode, d);
-        i += 1;
-    }
-    Apart {
-        piece: i,
-        one: seen_in(a),
-        two: seen_in(b),
-    }
-}
-
 // A piece as it is written, or that there is none.
-fn put_piece<W: Write>(out: &mut W, text: &[u8], piece: PieceSeen) -> io::Result<()> {
-    if !piece.more {
-        return put(out, b"no more");
-    }
-    put(out, b"`")?;
-    put(out, steps::text::literal_text(text, piece.range))?;
-    put(out, b"`")
+fn put_piece<W: Write>(out: &mut W, text: &[u8], piece: Option<Piece>) -> io::Result<()> {
+    let Some(piece) = piece else {
+        return write!(out, "no more");
+    };
+    write!(out, "`")?;
+    out.write_all(steps::text::literal_text(text, range_of(piece)))?;
+    write!(out, "`")
 }
 
 fn put_apart<W: Write>(out: &mut W, one: &[u8], two: &[u8], at: Apart) -> io::Result<()> {
     let piece = at.piece;
     write!(out, "differ at piece {piece}: ")?;
     put_piece(out, one, at.one)?;
-    put(out, b" and ")?;
+    write!(out, " and ")?;
     put_piece(out, two, at.two)?;
-    put(out, b"\n")
+    writeln!(out)
 }
 
 // Where two plain forms part.
 fn put_parting<W: Write>(out: &mut W, one: &[u8], two: &[u8], mode: u8) -> io::Result<()> {
     let request = Request {
         mode,
-        style: Hashes::Plain,
+        style: None,
         given: false,
         newline: false,
     };
-    let first = answer::decide::opened(one, b"", request);
-    let second = answer::decide::opened(two, b"", request);
-    if first.answer.number != 0 {
+    let Ok(first) = answer::decide::opened(one, b"", request) else {
         return Ok(());
-    }
-    if second.answer.number != 0 {
+    };
+    let Ok(second) = answer::decide::opened(two, b"", request) else {
         return Ok(());
-    }
+    };
     put_apart(
         out,
         one,
@@ -150,8 +113,8 @@ fn put_parting<W: Write>(out: &mut W, one: &[u8], two: &[u8], mode: u8) -> io::R
 
 // Whether two plain forms are the same, or where they part.
 fn put_likeness<W: Write>(out: &mut W, one: &[u8], two: &[u8], mode: u8) -> io::Result<()> {
-    if equal(one, two) {
-        return put(out, b"the same\n");
+    if one == two {
+        return writeln!(out, "the same");
     }
     put_parting(out, one, two, mode)
 }
@@ -168,12 +131,12 @@ fn compare<W: Write, E: Write>(
 ) -> io::Result<()> {
     let told = tidies::tidy(one, mode, first);
     if told.number != 0 {
-        say(err, b"the first has no plain form: ")?;
+        write!(err, "the first has no plain form: ")?;
         return desk::say_refused(err, one, mode, told);
     }
     let other = tidies::tidy(two, mode, second);
     if other.number != 0 {
-        say(err, b"the second has no plain form: ")?;
+        write!(err, "the second has no plain form: ")?;
         return desk::say_refused(err, two, mode, other);
     }
     put_likeness(out, &first[..told.bytes], &second[..other.bytes], mode)
@@ -195,69 +158,59 @@ fn read_file<R: Files>(rt: &R, name: &[u8], text: &mut [u8]) -> io::Result<usize
     }
 }
 
-// The file that an argument names, as far as it is looked at. A file that cannot be opened or read is said on standard error.
+// How much is looked at of the file that an argument names, which is read. A file that cannot be opened or read is said on standard error.
 fn take<R: Env + Files, E: Write>(
     rt: &R,
     err: &mut E,
     i: usize,
     text: &mut [u8],
-) -> io::Result<Taken>
-    ensures { IfOk result (λ t. (t.length ≤ length text.new) × (t.length ≡ length (take t.length text.new))) }
+) -> io::Result<Option<usize>>
+    ensures { IfOk result (λ t. IfSome t (λ n. (n ≤ length text.new) × (n ≡ length (take n text.new)))) }
 {
-    let none = Taken {
-        there: false,
-        length: 0,
-    };
     let mut path = [0u8; 4096];
     match rt.arg(i, &mut path) {
         Ok(length) => {
             match read_file(rt, &path[..length], text) {
-                Ok(length) => Ok(Taken {
-                    there: true,
-                    length,
-                }),
+                Ok(length) => Ok(Some(length)),
                 Err(e) => {
-                    say(err, &path[..length])?;
+                    err.write_all(&path[..length])?;
                     writeln!(err, ": {e}")?;
-                    Ok(none)
+                    Ok(None)
                 }
             }
         }
         Err(_) => {
-            say(
+            writeln!(
                 err,
-                b"alike ONE TWO [MODE]: two files, and `format`, `asm` or `diagnostic`\n",
+                "alike ONE TWO [MODE]: two files, and `format`, `asm` or `diagnostic`"
             )?;
-            Ok(none)
+            Ok(None)
         }
     }
 }
 
 fn main(rt: HostRuntime) -> io::Result<()> {
     let mut err = rt.stderr();
-    let mode = desk::mode_asked(&rt, 3);
-    if 2 < mode {
-        return say(&mut err, b"the mode is `format`, `asm` or `diagnostic`\n");
-    }
+    let Some(mode) = desk::mode_asked(&rt, 3) else {
+        return writeln!(err, "the mode is `format`, `asm` or `diagnostic`");
+    };
     // One byte more than the longest text that is read: a longer file is read far enough to be refused as 3.
     let mut one = [0u8; 65536];
     let mut two = [0u8; 65536];
-    let a = take(&rt, &mut err, 1, &mut one)?;
-    if !a.there {
+    let Some(a) = take(&rt, &mut err, 1, &mut one)? else {
         return Ok(());
-    }
-    let b = take(&rt, &mut err, 2, &mut two)?;
-    if !b.there {
+    };
+    let Some(b) = take(&rt, &mut err, 2, &mut two)? else {
         return Ok(());
-    }
+    };
     let mut first = [0u8; 65536];
     let mut second = [0u8; 65536];
     compare(
         &mut rt.stdout(),
         &mut err,
-        &one[..a.length],
-        &two[..b.length],
-        mode,
+        &one[..a],
+        &two[..b],
+        mode as u8,
         &mut first,
         &mut second,
     )

@@ -1,5 +1,5 @@
 -- What a decision on a text that may be known says, and that of a fresh text it is the answer to the call. Rests on Asking and the laws of the answer.
-use Rattle.std.specs.Prelude.{ℕ, ◌≡◌, refl, Bool, true, false, List, eqb}
+use Rattle.std.specs.Prelude.{ℕ, ◌≡◌, refl, Bool, true, false, List, eqb, Result, Ok, Err}
 use Rattle.std.proofs.Math.Path.{ap, sym}
 use Rattle.std.proofs.Common.{◌∙◌, eq-eqb, ne_eqb}
 use Rattle.std.proofs.lemmas.Bool.{eqb-false}
@@ -10,11 +10,15 @@ use Rattle.reading.specs.Lists.{counts_of}
 use Rattle.reading.specs.declared.Answer.{Answer}
 use Rattle.reading.specs.declared.Request.{Request}
 use Rattle.reading.specs.declared.Rooms.{Rooms}
-use Rattle.laws.specs.Deciding.{counted_by, counted_answer, open_answer, open_by_lem}
+use Rattle.laws.specs.Deciding.{refused_as, counted_by, counted_answer, open_answer, open_by_lem}
 use Rattle.laws.specs.AnswerLaws.{small_frame, room_enough, Done, answer_open}
 use Rattle.answer.specs.Asking.{freshly, valid_by, open_asked, asked_answer, OpenedBy, DecidedBy}
+use Rattle.answer.specs.DecisionLaws.{never_zero}
+use Rattle.answer.specs.Refusals.{number_of, place_of, answer_in}
 use Rattle.answer.specs.declared.Asked.{Asked}
 use Rattle.answer.specs.declared.Decision.{Decision}
+use Rattle.answer.specs.declared.Readable.{Readable}
+use Rattle.answer.specs.declared.Refusal.{Refusal}
 
 -- OF A FRESH TEXT the answer is the call's
 pub fresh_open : (t s : List ℕ) (q : Request) → open_asked (freshly q) t s ≡ open_answer t s q
@@ -58,21 +62,23 @@ module _ (t s : List ℕ) (a : Asked) (r : Rooms) {d : Decision} (x : DecidedBy 
       }
 
 -- what is decided before the text is read
-module _ (t s : List ℕ) (a : Asked) {d : Decision} (x : OpenedBy t s a d) where
-  number_is : d.answer.number ≡ (open_asked a t s).number
-  number_is = ap (λ (y : Answer). y.number) x.answer
+module _ (t s : List ℕ) (a : Asked) where
+  number_is : {r : Result Readable Refusal} → OpenedBy t s a r → (answer_in r).number ≡ (open_asked a t s).number
+  number_is x = ap (λ (y : Answer). y.number) x.answer
 
   -- a refusal is the answer, whatever the lists have room for
-  pub asked_refused : (d.answer.number ≡ 0 → ⊥) → (r : Rooms) → d.answer ≡ asked_answer a t s r
+  pub asked_refused : {e : Refusal} → OpenedBy t s a (Err e) → (r : Rooms) → refused_as (number_of e) (place_of e) ≡ asked_answer a t s r
   unfolding asked_answer pick
-  asked_refused some r = x.answer ∙ sym (rw (ne_eqb (open_asked a t s).number 0 (λ z. some (number_is ∙ z))) refl)
+  asked_refused {e} x r =
+      x.answer ∙ sym (rw (ne_eqb (open_asked a t s).number 0 (λ z. never_zero e (number_is x ∙ z))) refl)
 
-  module _ (zero : d.answer.number ≡ 0) where
+  module _ {y : Readable} (x : OpenedBy t s a (Ok y)) where
     -- without one the frame is small
-    pub asked_small : Small t d.frame
-    asked_small = rw (x.frame zero) (small_frame t s a.request (x.short zero))
+    pub asked_small : Small t y.frame
+    asked_small = rw x.readable.frame (small_frame t s a.request x.short)
 
     -- and the answer is that of the counts by the frame and the mode at hand
-    pub asked_by_counts : (r : Rooms) → counted_by t d.frame d.mode r ≡ asked_answer a t s r
+    pub asked_by_counts : (r : Rooms) → counted_by t y.frame y.mode r ≡ asked_answer a t s r
     unfolding asked_answer counted_answer pick
-    asked_by_counts r = rw (x.frame zero, x.mode zero) (sym (rw (eq-eqb (open_asked a t s).number 0 (sym number_is ∙ zero)) refl))
+    asked_by_counts r =
+        rw (x.readable.frame, x.readable.mode) (sym (rw (eq-eqb (open_asked a t s).number 0 (ap (λ (z : Answer). z.number) (sym x.answer))) refl))

@@ -1,75 +1,33 @@
 // The answer to a call, before any list is touched: 16 and refusals 1 to 5 from what was handed over, 6 to 9 from the counts.
-ghost use Rattle.std.specs.Prelude.{◌≡◌, ◌≤◌, eqb, length};
+ghost use Rattle.std.specs.Prelude.{◌≡◌, ◌≤◌, length};
 ghost use Rattle.utf8.specs.Chars.{chars_from};
-ghost use Rattle.utf8.specs.Choice.{pick};
 ghost use Rattle.frame.specs.Bounds.{Small};
-ghost use Rattle.reading.specs.Answers.{no_counts, is_styled, style_of, is_long, ends_in_newline, lacks_newline, mode_of};
-ghost use Rattle.laws.specs.Deciding.{refused_as, room_for, counted_by, early_number};
-ghost use Rattle.answer.specs.Decisions.{Admitted, Late, Opened, Decided};
+ghost use Rattle.reading.specs.Answers.{is_styled, style_of, is_long, ends_in_newline, lacks_newline, mode_of};
+ghost use Rattle.laws.specs.Deciding.{refused_as, room_for, early_number};
+ghost use Rattle.answer.specs.Refusals.{answer_in};
+ghost use Rattle.answer.specs.Decisions.{Admitted, Late, Opened, CountedBy, Decided};
 ghost use Rattle.answer.specs.Asking.{freshly, valid_by, OpenedBy, DecidedBy};
 
-use crate::{Asked, Decision};
-use frame::{Frame, Mode, SnippetPlace, Style};
-use reading::{Answer, Counts, Hashes, Request, Rooms};
+use crate::{Asked, Decision, Readable, Refusal};
+use frame::{Frame, Mode};
+use reading::{Answer, Counts, Request, Rooms};
 use utf8::Checked;
 
-fn no_counts() -> Counts
-    ensures { result ≡ no_counts }
-{
-    Counts {
-        pieces: 0,
-        errors: 0,
-        places: 0,
-        lines: 0,
-    }
-}
-
-// A refusal before anything is read; its frame and mode mean nothing.
-fn refused(number: u8, place: usize) -> Decision
-    ensures { result.answer ≡ refused_as number place }
-{
-    let counts = no_counts();
-    Decision {
-        answer: Answer {
-            number,
-            place,
-            counts,
-            arguments: 0,
-            moves: 0,
-        },
-        frame: Frame {
-            quote: 1,
-            end: SnippetPlace(0),
-            literal: false,
-        },
-        mode: Mode::Format,
-        chars: 0,
-    }
-}
-
 // Whether the style is one: at most 255 hashes, and no snippet without a style.
-fn is_styled(style: Hashes, given: bool) -> bool
+fn is_styled(style: Option<usize>, given: bool) -> bool
     ensures { result ≡ is_styled style given }
 {
     match style {
-        Hashes::Plain => { if given { false } else { true } }
-        Hashes::Raw(hashes) => hashes <= 255,
+        None => !given,
+        Some(hashes) => u8::try_from(hashes).is_ok(),
     }
 }
 
 // The style of a frame; hashes above 255 are none that is asked for.
-fn style_of(style: Hashes) -> Style
+fn style_of(style: Option<usize>) -> Option<u8>
     ensures { result ≡ style_of style }
 {
-    match style {
-        Hashes::Plain => Style::Plain,
-        Hashes::Raw(hashes) => {
-            if hashes <= 255 {
-                return Style::Raw(hashes as u8);
-            }
-            Style::Plain
-        }
-    }
+    u8::try_from(style?).ok()
 }
 
 // Whether the text, or a snippet that is given, is too long.
@@ -104,119 +62,78 @@ fn lacks_newline(text: &[u8], newline: bool) -> bool
     }
 }
 
-// The mode of a number; above 2 there is none, and the call is refused.
+// The mode of a number that `early` let pass; it refuses any other.
 fn mode_of(number: u8) -> Mode
     ensures { result ≡ mode_of number }
 {
-    if number == 0 {
-        return Mode::Format;
-    }
-    if number == 1 {
-        return Mode::InlineAsm;
-    }
-    Mode::Diagnostic
+    Mode::try_from(number).unwrap_or(Mode::Diagnostic)
 }
 
-// 6 to 9 for the first list whose room is too small, else 0.
-pub fn room_for(counts: Counts, rooms: Rooms) -> u8
-    ensures { result ≡ room_for counts rooms }
+// The first list whose room is too small is a refusal.
+pub fn room_for(counts: Counts, rooms: Rooms) -> Result<(), Refusal>
+    ensures { answer_in result ≡ refused_as (room_for counts rooms) 0 }
 {
     if rooms.pieces < counts.pieces {
-        return 6;
+        return Err(Refusal::Pieces);
     }
     if rooms.errors < counts.errors {
-        return 7;
+        return Err(Refusal::Errors);
     }
     if rooms.places < counts.places {
-        return 8;
+        return Err(Refusal::Places);
     }
     if rooms.lines < counts.lines {
-        return 9;
+        return Err(Refusal::Lines);
     }
-    0
-}
-
-// A figure as it is said: 0 of a refusal.
-fn said(number: u8, figure: usize) -> usize
-    ensures { result ≡ pick (eqb number 0) figure 0 }
-{
-    if number == 0 {
-        return figure;
-    }
-    0
-}
-
-// A text that is read: its counts tell whether the lists have room.
-fn counted(text: &[u8], chars: usize, frame: Frame, mode: Mode, rooms: Rooms) -> Answer
-    requires { Small text.now frame × (chars ≡ length (chars_from text.now 0)) }
-    ensures { result ≡ counted_by text.now frame mode rooms }
-{
-    let told = tally::tally(text, chars, frame, mode);
-    let counts = told.counts;
-    let number = room_for(counts, rooms);
-    Answer {
-        number,
-        place: 0,
-        counts,
-        arguments: said(number, told.arguments),
-        moves: said(number, told.moves),
-    }
+    Ok(())
 }
 
 // A call without a refusal before its text, which has so many characters, is read.
-fn admitted(text: &[u8], chars: usize, snippet: &[u8], request: Request) -> Decision
+fn admitted(text: &[u8], chars: usize, snippet: &[u8], request: Request) -> Readable
     ensures { Admitted text.now chars snippet.now request result }
 {
-    let style = request.style;
-    let framed = style_of(style);
-    let frame = frame::frame_of(text, framed, request.given, snippet, request.newline);
-    let mode = mode_of(request.mode);
-    let counts = no_counts();
-    Decision {
-        answer: Answer {
-            number: 0,
-            place: 0,
-            counts,
-            arguments: 0,
-            moves: 0,
-        },
-        frame,
-        mode,
+    let style = style_of(request.style);
+    Readable {
+        frame: frame::frame_of(text, style, request.given, snippet, request.newline),
+        mode: mode_of(request.mode),
         chars,
     }
 }
 
-// Refusals 1 to 3, which need no look at the text's bytes; 0 where there is none. `over`: more was handed over than the text, and passed the limit.
-pub fn early(text: &[u8], over: bool, snippet: &[u8], request: Request) -> u8
-    ensures { result ≡ early_number over text.now snippet.now request }
+// Refusals 1 to 3, which need no look at the text's bytes. `over`: more was handed over than the text, and passed the limit.
+pub fn early(text: &[u8], over: bool, snippet: &[u8], request: Request) -> Result<(), Refusal>
+    ensures { answer_in result ≡ refused_as (early_number over text.now snippet.now request) 0 }
 {
-    let style = request.style;
-    if 2 < request.mode {
-        return 1;
-    }
-    if !is_styled(style, request.given) {
-        return 2;
+    Mode::try_from(request.mode)?;
+    if !is_styled(request.style, request.given) {
+        return Err(Refusal::Style);
     }
     if over {
-        return 3;
+        return Err(Refusal::Length);
     }
     if is_long(text, request.given, snippet) {
-        return 3;
+        return Err(Refusal::Length);
     }
-    0
+    Ok(())
 }
 
-// Refusals 4 and 5, from how far a check of the text came; where there is none, the frame, the mode and the characters.
-pub fn late(text: &[u8], checked: Checked, snippet: &[u8], request: Request) -> Decision
+// Refusals 4 and 5, from how far a check of the text came.
+pub fn late(
+    text: &[u8],
+    checked: Checked,
+    snippet: &[u8],
+    request: Request,
+) -> Result<Readable, Refusal>
     ensures { Late text.now checked snippet.now request result }
 {
-    if checked.valid < text.len() {
-        return refused(4, checked.valid);
+    let valid = checked.valid;
+    if valid < text.len() {
+        return Err(Refusal::NotUtf8 { valid });
     }
     if lacks_newline(text, request.newline) {
-        return refused(5, 0);
+        return Err(Refusal::Newline);
     }
-    admitted(text, checked.chars, snippet, request)
+    Ok(admitted(text, checked.chars, snippet, request))
 }
 
 // A request for a text of which nothing is known.
@@ -246,46 +163,64 @@ fn check_by(text: &[u8], asked: Asked) -> Checked
     utf8::check(text)
 }
 
-// The refusals that need no reading, in the rules' order; 0 where there is none, with the frame, the mode and the characters.
-pub fn opened_by(text: &[u8], snippet: &[u8], asked: Asked) -> Decision
+// The refusals that need no reading, in the rules' order.
+pub fn opened_by(text: &[u8], snippet: &[u8], asked: Asked) -> Result<Readable, Refusal>
     ensures { OpenedBy text.now snippet.now asked result }
 {
     let request = asked.request;
     if asked.unfit {
-        return refused(16, 0);
+        return Err(Refusal::Unfit);
     }
-    let number = early(text, asked.over, snippet, request);
-    if number != 0 {
-        return refused(number, 0);
-    }
+    early(text, asked.over, snippet, request)?;
     let checked = check_by(text, asked);
     late(text, checked, snippet, request)
 }
 
 // The same of a fresh text.
-pub fn opened(text: &[u8], snippet: &[u8], request: Request) -> Decision
+pub fn opened(text: &[u8], snippet: &[u8], request: Request) -> Result<Readable, Refusal>
     ensures { Opened text.now snippet.now request result }
 {
-    let asked = fresh(request);
-    opened_by(text, snippet, asked)
+    opened_by(text, snippet, fresh(request))
+}
+
+// A text that is read: its counts tell whether the lists have room.
+fn counted(text: &[u8], readable: Readable, rooms: Rooms) -> Decision
+    requires { Small text.now readable.frame × (readable.chars ≡ length (chars_from text.now 0)) }
+    ensures { CountedBy text.now readable rooms result }
+{
+    let told = tally::tally(text, readable.chars, readable.frame, readable.mode);
+    let counts = told.counts;
+    match room_for(counts, rooms) {
+        Ok(()) => Decision {
+            answer: Answer {
+                number: 0,
+                place: 0,
+                counts,
+                arguments: told.arguments,
+                moves: told.moves,
+            },
+            done: Some(readable),
+        },
+        Err(refusal) => Decision {
+            answer: Answer {
+                counts,
+                ..Answer::from(refusal)
+            },
+            done: None,
+        },
+    }
 }
 
 // The answer to a call: a refusal before the text is read, or what its counts say.
 pub fn decide_by(text: &[u8], snippet: &[u8], asked: Asked, rooms: Rooms) -> Decision
     ensures { DecidedBy text.now snippet.now asked rooms result }
 {
-    let first = opened_by(text, snippet, asked);
-    let answer = first.answer;
-    let frame = first.frame;
-    let mode = first.mode;
-    if answer.number != 0 {
-        return first;
-    }
-    Decision {
-        answer: counted(text, first.chars, frame, mode, rooms),
-        frame,
-        mode,
-        chars: first.chars,
+    match opened_by(text, snippet, asked) {
+        Ok(readable) => counted(text, readable, rooms),
+        Err(refusal) => Decision {
+            answer: Answer::from(refusal),
+            done: None,
+        },
     }
 }
 
@@ -293,6 +228,5 @@ pub fn decide_by(text: &[u8], snippet: &[u8], asked: Asked, rooms: Rooms) -> Dec
 pub fn decide(text: &[u8], snippet: &[u8], request: Request, rooms: Rooms) -> Decision
     ensures { Decided text.now snippet.now request rooms result }
 {
-    let asked = fresh(request);
-    decide_by(text, snippet, asked, rooms)
+    decide_by(text, snippet, fresh(request), rooms)
 }

@@ -1,5 +1,5 @@
 -- What is read back from a record's numbers is the record, where each number fits. Rests on Back and on the layout.
-use Rattle.std.specs.Prelude.{ℕ, ◌+◌, ◌≡◌, Bool, true, false, List, ◌++◌}
+use Rattle.std.specs.Prelude.{ℕ, ◌+◌, ◌≡◌, Bool, true, false, List, ◌++◌, Option, Some, None}
 use Rattle.std.proofs.Math.Path.{refl, ap}
 use Rattle.std.proofs.Common.{◌∙◌, mod-eq_of_lt, arith}
 use Rattle.utf8.specs.Choice.{pick}
@@ -11,11 +11,9 @@ use Rattle.placeholder.specs.declared.Align.{Align}
 use Rattle.placeholder.specs.declared.Argument.{Argument}
 use Rattle.placeholder.specs.declared.Fill.{Fill}
 use Rattle.placeholder.specs.declared.Hex.{Hex}
-use Rattle.placeholder.specs.declared.MaybeSpan.{MaybeSpan}
 use Rattle.placeholder.specs.declared.Place.{Place}
 use Rattle.placeholder.specs.declared.Sign.{Sign}
 use Rattle.reading.specs.declared.ErrorRecord.{ErrorRecord}
-use Rattle.reading.specs.declared.MaybeRange.{MaybeRange}
 use Rattle.reading.specs.declared.Piece.{Piece}
 use Rattle.words.specs.Layout.{low_of, four, bit_of, align_of, sign_of, hex_of, place_tag, place_words, fill_words, span_words, count_data, name_span_end, range_words, head_words, spec_words, argument_words, literal_words, piece_words, error_words}
 use Rattle.back.specs.Back.{word, range_at, span_at, bit_from, align_from, sign_from, hex_from, maybe_span_at, maybe_range_at, fill_at, place_at, count_at, spec_from, argument_from, piece_from, error_from, Below, RangeFits, SpanFits, MaybeSpanFits, MaybeRangeFits, FillFits, PlaceFits, CountFits, SpecFits, ArgumentFits, Fits, ErrorFits}
@@ -81,20 +79,20 @@ span_back : (w : List ℕ) (i j : ℕ) (s : Span) → SpanFits s → word w i �
 span_back w i j s h a b = rw (a, b, low_back h.0, low_back h.1)
 
 module _ (w : List ℕ) (k : ℕ) where
-  maybe_span_back : (n : ℕ) (s : MaybeSpan) → MaybeSpanFits s → four_at w k ≡ span_words n s → maybe_span_at w k ≡ s
+  maybe_span_back : (n : ℕ) (s : Option Span) → MaybeSpanFits s → four_at w k ≡ span_words n s → maybe_span_at w k ≡ s
   unfolding pick
-  maybe_span_back n MaybeSpan.Absent h e = rw (second w k e)
-  maybe_span_back n (MaybeSpan.Present s) h e = rw (second w k e, span_back w (k + 2) (k + 3) s h (third w k e) (fourth w k e))
+  maybe_span_back n None h e = rw (second w k e)
+  maybe_span_back n (Some s) h e = rw (second w k e, span_back w (k + 2) (k + 3) s h (third w k e) (fourth w k e))
 
-  maybe_range_back : (r : MaybeRange) → MaybeRangeFits r → four_at w k ≡ range_words r → maybe_range_at w k ≡ r
+  maybe_range_back : (r : Option TextRange) → MaybeRangeFits r → four_at w k ≡ range_words r → maybe_range_at w k ≡ r
   unfolding pick
-  maybe_range_back MaybeRange.Absent h e = rw (second w k e)
-  maybe_range_back (MaybeRange.Present r) h e = rw (second w k e, range_back w (k + 2) (k + 3) r h (third w k e) (fourth w k e))
+  maybe_range_back None h e = rw (second w k e)
+  maybe_range_back (Some r) h e = rw (second w k e, range_back w (k + 2) (k + 3) r h (third w k e) (fourth w k e))
 
-  fill_back : (x : Fill) → FillFits x → four_at w k ≡ fill_words x → fill_at w k ≡ x
+  fill_back : (x : Option Fill) → FillFits x → four_at w k ≡ fill_words x → fill_at w k ≡ x
   unfolding pick
-  fill_back Fill.Absent h e = rw (first w k e)
-  fill_back (Fill.Present c s) h e = rw (first w k e, second w k e, span_back w (k + 2) (k + 3) s h (third w k e) (fourth w k e))
+  fill_back None h e = rw (first w k e)
+  fill_back (Some f) h e = rw (first w k e, second w k e, span_back w (k + 2) (k + 3) f.span h (third w k e) (fourth w k e))
 
   place_back : (p : Place) (s : Span) → PlaceFits p → four_at w k ≡ place_words p s → place_at (place_tag p) w k ≡ p
   unfolding pick
@@ -131,18 +129,18 @@ place_four (Place.Next n) s = Four.made _ _ _ _
 place_four (Place.At n) s = Four.made _ _ _ _
 place_four (Place.Named r) s = Four.made _ _ _ _
 
-fill_four : (x : Fill) → Four (fill_words x)
-fill_four Fill.Absent = Four.made _ _ _ _
-fill_four (Fill.Present c s) = Four.made _ _ _ _
+fill_four : (x : Option Fill) → Four (fill_words x)
+fill_four None = Four.made _ _ _ _
+fill_four (Some f) = Four.made _ _ _ _
 
-span_four : (n : ℕ) (s : MaybeSpan) → Four (span_words n s)
-span_four n MaybeSpan.Absent = Four.made _ _ _ _
-span_four n (MaybeSpan.Present s) = Four.made _ _ _ _
+span_four : (n : ℕ) (s : Option Span) → Four (span_words n s)
+span_four n None = Four.made _ _ _ _
+span_four n (Some s) = Four.made _ _ _ _
 
 -- and starts with the number that it is given
-span_first : (n : ℕ) (s : MaybeSpan) → word (span_words n s) 0 ≡ n
-span_first n MaybeSpan.Absent = refl
-span_first n (MaybeSpan.Present s) = refl
+span_first : (n : ℕ) (s : Option Span) → word (span_words n s) 0 ≡ n
+span_first n None = refl
+span_first n (Some s) = refl
 
 count_four : (c : Count) → Four (count_data c)
 count_four Count.Implied = Four.made _ _ _ _
@@ -151,9 +149,9 @@ count_four (Count.ByArgument n) = Four.made _ _ _ _
 count_four (Count.ByStar n) = Four.made _ _ _ _
 count_four (Count.ByName r s) = Four.made _ _ _ _
 
-range_four : (r : MaybeRange) → Four (range_words r)
-range_four MaybeRange.Absent = Four.made _ _ _ _
-range_four (MaybeRange.Present r) = Four.made _ _ _ _
+range_four : (r : Option TextRange) → Four (range_words r)
+range_four None = Four.made _ _ _ _
+range_four (Some r) = Four.made _ _ _ _
 
 -- the ten fours of a placeholder, each at its place
 record Ten (w h p f m wd ws pd ps k ks : List ℕ) : Type 0 where
@@ -200,7 +198,7 @@ argument_ten a =
     (Four.made _ _ _ _) (span_four 0 s.typespan)
 
 -- a four that is another's starts with its number
-same_first : (w : List ℕ) (k n : ℕ) (s : MaybeSpan) → four_at w k ≡ span_words n s → word w k ≡ n
+same_first : (w : List ℕ) (k n : ℕ) (s : Option Span) → four_at w k ≡ span_words n s → word w k ≡ n
 same_first w k n s e = ap (λ (l : List ℕ). word l 0) e ∙ span_first n s
 
 spec_back : (a : Argument) → SpecFits a.spec → spec_from (argument_words a) ≡ a.spec

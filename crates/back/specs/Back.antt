@@ -1,6 +1,6 @@
 -- What a caller does with the numbers: the piece that 40 numbers hold, the error record that 16 hold, and the records of a list one after the other.
 -- And which records the numbers hold whole: those whose places, spans and argument numbers are below 2^32.
-use Rattle.std.specs.Prelude.{ℕ, zero, suc, ◌+◌, ◌<◌, Bool, List, [], ◌∷◌, eqb, get_or, take, drop}
+use Rattle.std.specs.Prelude.{ℕ, zero, suc, ◌+◌, ◌<◌, Bool, List, [], ◌∷◌, eqb, get_or, take, drop, Option, Some, None}
 use Rattle.utf8.specs.Choice.{pick}
 use Rattle.frame.specs.Places.{place, snippet, range_of, span_of}
 use Rattle.frame.specs.declared.Span.{Span}
@@ -11,13 +11,12 @@ use Rattle.placeholder.specs.declared.Align.{Align}
 use Rattle.placeholder.specs.declared.Argument.{Argument}
 use Rattle.placeholder.specs.declared.Fill.{Fill}
 use Rattle.placeholder.specs.declared.Hex.{Hex}
-use Rattle.placeholder.specs.declared.MaybeSpan.{MaybeSpan}
 use Rattle.placeholder.specs.declared.Place.{Place}
 use Rattle.placeholder.specs.declared.Sign.{Sign}
 use Rattle.placeholder.specs.declared.Spec.{Spec}
 use Rattle.reading.specs.declared.ErrorRecord.{ErrorRecord}
-use Rattle.reading.specs.declared.MaybeRange.{MaybeRange}
 use Rattle.reading.specs.declared.Piece.{Piece}
+use Rattle.placeholder.specs.Filling.{filling}
 
 -- the i-th number
 abbrev pub word : List ℕ → ℕ → ℕ
@@ -44,14 +43,14 @@ abbrev pub hex_from : ℕ → Hex
 hex_from n = pick (eqb n 1) Hex.Lower (pick (eqb n 2) Hex.Upper Hex.Absent)
 
 -- four numbers from the k-th on: the second says whether a span, or bytes, are there
-abbrev pub maybe_span_at : List ℕ → ℕ → MaybeSpan
-maybe_span_at w k = pick (eqb (word w (k + 1)) 1) (MaybeSpan.Present (span_at w (k + 2) (k + 3))) MaybeSpan.Absent
+abbrev pub maybe_span_at : List ℕ → ℕ → Option Span
+maybe_span_at w k = pick (eqb (word w (k + 1)) 1) (Some (span_at w (k + 2) (k + 3))) None
 
-abbrev pub maybe_range_at : List ℕ → ℕ → MaybeRange
-maybe_range_at w k = pick (eqb (word w (k + 1)) 1) (MaybeRange.Present (range_at w (k + 2) (k + 3))) MaybeRange.Absent
+abbrev pub maybe_range_at : List ℕ → ℕ → Option TextRange
+maybe_range_at w k = pick (eqb (word w (k + 1)) 1) (Some (range_at w (k + 2) (k + 3))) None
 
-abbrev pub fill_at : List ℕ → ℕ → Fill
-fill_at w k = pick (eqb (word w k) 1) (Fill.Present (word w (k + 1)) (span_at w (k + 2) (k + 3))) Fill.Absent
+abbrev pub fill_at : List ℕ → ℕ → Option Fill
+fill_at w k = pick (eqb (word w k) 1) (filling (word w (k + 1)) (span_at w (k + 2) (k + 3))) None
 
 -- a place of the kind that a number says
 abbrev pub place_at : ℕ → List ℕ → ℕ → Place
@@ -128,17 +127,17 @@ RangeFits r = Below r.start.0 × Below r.end.0
 abbrev pub SpanFits : Span → Type 0
 SpanFits s = Below s.start.0 × Below s.end.0
 
-abbrev pub MaybeSpanFits : MaybeSpan → Type 0
-MaybeSpanFits MaybeSpan.Absent = Unit {0}
-MaybeSpanFits (MaybeSpan.Present s) = SpanFits s
+abbrev pub MaybeSpanFits : Option Span → Type 0
+MaybeSpanFits None = Unit {0}
+MaybeSpanFits (Some s) = SpanFits s
 
-abbrev pub MaybeRangeFits : MaybeRange → Type 0
-MaybeRangeFits MaybeRange.Absent = Unit {0}
-MaybeRangeFits (MaybeRange.Present r) = RangeFits r
+abbrev pub MaybeRangeFits : Option TextRange → Type 0
+MaybeRangeFits None = Unit {0}
+MaybeRangeFits (Some r) = RangeFits r
 
-abbrev pub FillFits : Fill → Type 0
-FillFits Fill.Absent = Unit {0}
-FillFits (Fill.Present c s) = SpanFits s
+abbrev pub FillFits : Option Fill → Type 0
+FillFits None = Unit {0}
+FillFits (Some f) = SpanFits f.span
 
 abbrev pub PlaceFits : Place → Type 0
 PlaceFits (Place.Next n) = Below n

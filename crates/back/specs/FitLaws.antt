@@ -1,12 +1,11 @@
 -- Every number of a reading fits, part by part up to a whole placeholder: a place of the text is at most its length, a span is a place of the
 -- text moved by the quote's offset or "end", and no step takes more than four arguments.
 -- Rests on `scan`'s and `placeholder`'s definitions, and on FoundLaws for where their parts stop.
-use Rattle.std.specs.Prelude.{ℕ, ◌+◌, ◌≤◌, ◌<◌, Bool, true, false, List, length}
+use Rattle.std.specs.Prelude.{ℕ, ◌+◌, ◌≤◌, ◌<◌, Bool, true, false, List, length, Option, Some, None}
 use native.Mathlib.Omega.{arith}
 use borrow.Author.Tests.{ltb-true}
 use Rattle.utf8.specs.ChoiceLaws.{pick_elim}
 use Rattle.utf8.specs.CharLaws.{peeked}
-use Rattle.utf8.specs.declared.Seen.{Seen}
 use Rattle.frame.specs.Spans.{to_snippet, start_of, span_between}
 use Rattle.frame.specs.Bounds.{Small}
 use Rattle.frame.specs.declared.TextPlace.{TextPlace}
@@ -19,7 +18,6 @@ use Rattle.scan.specs.Words.{word_read, number_read}
 use Rattle.scan.specs.Counts.{number_count, name_count, count_after, count_read}
 use Rattle.scan.specs.ScanLaws.{seen_elim, consumed_in, spaces_in, text_in, word_in}
 use Rattle.scan.specs.declared.CountRead.{CountRead}
-use Rattle.scan.specs.declared.Number.{Number}
 use Rattle.placeholder.specs.Places.{raw_place, word_place, place_after, place_read}
 use Rattle.placeholder.specs.Parts.{fill_seen, fill_read, plain_width, width_read, after_dot, precision_read}
 use Rattle.placeholder.specs.Types.{hex_type, debug_type, word_type, type_read}
@@ -43,6 +41,8 @@ use Rattle.placeholder.specs.declared.between.ArgumentRead.{ArgumentRead}
 use Rattle.closing.specs.declared.whole.PlaceholderRead.{PlaceholderRead}
 use Rattle.scrolls.specs.FoundLaws.{lead_between, width_between, precision_between, argument_to}
 use Rattle.back.specs.Back.{Below, RangeFits, SpanFits, MaybeSpanFits, FillFits, PlaceFits, CountFits, SpecFits, ArgumentFits}
+use Rattle.scan.specs.declared.Numeral.{Numeral}
+use Rattle.utf8.specs.declared.Char.{Char}
 
 -- a place, and bytes, within a text
 abbrev pub In : List ℕ → TextPlace → Type 0
@@ -88,7 +88,7 @@ module _ (t : List ℕ) (f : Frame) (small : Small t f) (end : Below f.end.0) wh
   end_fits : (at : TextPlace) → Below (end_of t f at).0
   unfolding end_of to_snippet
   end_fits at =
-      seen_elim (λ (n : Seen). Below (end_seen f at n).0) t at.0 (λ _. end)
+      seen_elim (λ (n : Option Char). Below (end_seen f at n).0) t at.0 (λ _. end)
       (λ c w e. omega (arith, (peeked t at.0 e).room, small.text, small.quote))
 
   -- so every span does
@@ -110,9 +110,9 @@ module _ (t : List ℕ) (f : Frame) (small : Small t f) (end : Below f.end.0) wh
   unfolding count_read number_count name_count
   count_fits at h = go (number_read t at).number
     where
-      go : (n : Number) → CountFits (count_after t f at (number_read t at) n).count
-      go (Number.Given n) = pick_elim (λ (r : CountRead). CountFits r.count) _ (λ _. tt) (λ _. tt)
-      go Number.Nothing =
+      go : (n : Option Numeral) → CountFits (count_after t f at (number_read t at) n).count
+      go (Some n) = pick_elim (λ (r : CountRead). CountFits r.count) _ (λ _. tt) (λ _. tt)
+      go None =
           let P : CountRead → Type 0 = λ r. CountFits r.count in
           pick_elim P _ (λ _. tt) (λ _. pick_elim P _ (λ _. (word_fits at h, between_fits at _)) (λ _. tt))
 
@@ -137,15 +137,15 @@ module _ (t : List ℕ) (f : Frame) (small : Small t f) (end : Below f.end.0) wh
     unfolding place_read
     place_fits = go (number_read t at).number
       where
-        go : (n : Number) → FoundFits (place_after t at (number_read t at) n).found
-        go (Number.Given n) = tt
-        go Number.Nothing = word_place_fits
+        go : (n : Option Numeral) → FoundFits (place_after t at (number_read t at) n).found
+        go (Some n) = tt
+        go None = word_place_fits
 
     -- a fill
     fill_fits : FillFits (fill_read t f at).fill
     unfolding fill_read
     fill_fits =
-        seen_elim (λ (n : Seen). FillFits (fill_seen t f at n).fill) t at.0 (λ _. tt)
+        seen_elim (λ (n : Option Char). FillFits (fill_seen t f at n).fill) t at.0 (λ _. tt)
         (λ c w e. pick_elim (λ (r : FillRead). FillFits r.fill) _ (λ _. across_fits at at) (λ _. tt))
 
     -- a width without the `0` flag

@@ -2,8 +2,9 @@
 // Each list counts as one of 256 records; a refusal writes only its number and its place.
 #![tactic(auto)]
 
-use reading::{Hashes, Request, Rooms};
+use reading::{Request, Rooms};
 use std::io;
+use std::io::Write;
 
 fn main(rt: HostRuntime) -> io::Result<()> {
     // One byte more than the longest text that is read: a longer input is read far enough to be refused as 3.
@@ -11,7 +12,7 @@ fn main(rt: HostRuntime) -> io::Result<()> {
     let length = intake::read_full(&mut rt.stdin(), &mut text)?;
     let request = Request {
         mode: 0,
-        style: Hashes::Plain,
+        style: None,
         given: false,
         newline: false,
     };
@@ -22,12 +23,10 @@ fn main(rt: HostRuntime) -> io::Result<()> {
         lines: 256,
     };
     let decision = answer::decide::decide(&text[..length], b"", request, rooms);
-    let answer = decision.answer;
     let mut out = rt.stdout();
-    if answer.number == 0 {
-        report::short(&mut out, &text[..length], b"", request)?;
-    } else {
-        report::lines::refusal(&mut out, answer)?;
+    match decision.done {
+        Some(_) => report::short(&mut out, &text[..length], b"", request)?,
+        None => report::lines::refusal(&mut out, decision.answer)?,
     }
-    listing::flush(&mut out)
+    out.flush()
 }

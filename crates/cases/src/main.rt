@@ -5,7 +5,7 @@
 ghost use Rattle.std.specs.Prelude.{◌≤◌};
 ghost use Rattle.std.specs.Io.{ReadsAtMost};
 
-use reading::{Hashes, Request, Rooms};
+use reading::{Request, Rooms};
 use std::io;
 use std::io::{Read, Write};
 
@@ -18,7 +18,7 @@ fn main(rt: HostRuntime) -> io::Result<()> {
     let mut text = [0u8; 66560];
     let mut out = rt.stdout();
     every_case(&mut rt.stdin(), &mut out, &mut snippet, &mut text)?;
-    listing::flush(&mut out)
+    out.flush()
 }
 
 // Lists the cases of the stream, counted from 0.
@@ -92,7 +92,7 @@ fn part<R: Read>(input: &mut R, buffer: &mut [u8], count: usize) -> io::Result<u
 
 // A stream that breaks off ends with one line.
 fn broken<W: Write>(out: &mut W) -> io::Result<bool> {
-    listing::words(out, b"stream\n")?;
+    writeln!(out, "stream")?;
     Ok(false)
 }
 
@@ -100,25 +100,17 @@ fn broken<W: Write>(out: &mut W) -> io::Result<bool> {
 fn two(low: u8, high: u8) -> usize
     ensures { result ≤ 65535 }
 {
-    low as usize + 256 * (high as usize)
+    u16::from_le_bytes([low, high]) as usize
 }
 
 // A number of three bytes.
 fn three(low: u8, middle: u8, high: u8) -> usize {
-    two(low, middle) + 65536 * (high as usize)
+    u32::from_le_bytes([low, middle, high, 0]) as usize
 }
 
-// Byte 1 is the style's mark, bytes 2 and 3 the hashes.
-fn style_of(mark: u8, hashes: usize) -> Hashes {
-    if mark == 1 {
-        return Hashes::Raw(hashes);
-    }
-    Hashes::Plain
-}
-
-// Bytes 0 to 5: the mode, the style, and the marks of a snippet and of an appended newline.
+// Bytes 0 to 5: the mode, the style's mark and its hashes, and the marks of a snippet and of an appended newline.
 fn request_of(head: [u8; 20]) -> Request {
-    let style = style_of(head[1], two(head[2], head[3]));
+    let style = (head[1] == 1).then_some(two(head[2], head[3]));
     Request {
         mode: head[0],
         style,

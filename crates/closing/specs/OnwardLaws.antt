@@ -1,11 +1,10 @@
 -- Reading goes forward over whole characters and stays within the text, part by part up to a whole placeholder, and how far the next argument's
 -- number moves. Rests on the definitions of this crate, BoundLaws, and `scan`'s laws of where its leaves stop.
-use Rattle.std.specs.Prelude.{ℕ, ◌+◌, ◌*◌, ◌≤◌, ◌<◌, Bool, List}
+use Rattle.std.specs.Prelude.{ℕ, ◌+◌, ◌*◌, ◌≤◌, ◌<◌, Bool, List, Option, Some, None}
 use Rattle.std.proofs.Common.{le_refl, le_trans, arith}
 use Rattle.std.proofs.Math.ListN.{length}
 use Rattle.utf8.specs.ChoiceLaws.{pick_elim}
 use Rattle.utf8.specs.CharLaws.{peeked}
-use Rattle.utf8.specs.declared.Seen.{Seen}
 use Rattle.frame.specs.declared.TextPlace.{TextPlace}
 use Rattle.frame.specs.declared.TextRange.{TextRange}
 use Rattle.frame.specs.declared.Frame.{Frame}
@@ -14,7 +13,6 @@ use Rattle.scan.specs.Words.{word_read, number_read}
 use Rattle.scan.specs.Counts.{count_read}
 use Rattle.scan.specs.ScanLaws.{seen_elim, consumed_on, consumed_in, past_on, past_in, spaces_on, spaces_in, text_on, text_in, word_on, word_in, number_on, number_in, count_on, count_in}
 use Rattle.scan.specs.ReachLaws.{Reached, reached_none, reached_then, reached_char, reached_consumed, reached_past, reached_spaces, reached_text, reached_word, reached_number, reached_count}
-use Rattle.scan.specs.declared.Number.{Number}
 use Rattle.placeholder.specs.Places.{raw_place, word_place, place_after, place_read}
 use Rattle.placeholder.specs.Parts.{fill_seen, fill_read, align_read, sign_read, plain_width, width_read, after_dot, precision_read}
 use Rattle.placeholder.specs.Types.{hex_type, debug_type, word_type, type_read}
@@ -39,6 +37,8 @@ use Rattle.placeholder.specs.declared.format.SpecRead.{SpecRead}
 use Rattle.placeholder.specs.declared.between.ArgumentRead.{ArgumentRead}
 use Rattle.closing.specs.declared.recover.Recovery.{Recovery}
 use Rattle.closing.specs.declared.whole.PlaceholderRead.{PlaceholderRead}
+use Rattle.scan.specs.declared.Numeral.{Numeral}
+use Rattle.utf8.specs.declared.Char.{Char}
 
 -- reading goes from one place of a text to another: over whole characters, no further back, and not out of the text
 pub record Onward (t : List ℕ) (from to : TextPlace) : Type 0 where
@@ -106,9 +106,9 @@ module _ (t : List ℕ) where
     unfolding place_read
     place_read_lem = go (number_read t at).number
       where
-        go : (n : Number) → Onward t at (place_after t at (number_read t at) n).at
-        go (Number.Given n) = number at
-        go Number.Nothing = word_place_lem
+        go : (n : Option Numeral) → Onward t at (place_after t at (number_read t at) n).at
+        go (Some n) = number at
+        go None = word_place_lem
 
     -- over an align
     pub align : Onward t at (align_read t at).at
@@ -135,7 +135,7 @@ module _ (t : List ℕ) where
     pub fill : Onward t at (fill_read t f at).at
     unfolding fill_read
     fill =
-        seen_elim (λ (n : Seen). Onward t at (fill_seen t f at n).at) t at.0 (λ _. stay at)
+        seen_elim (λ (n : Option Char). Onward t at (fill_seen t f at n).at) t at.0 (λ _. stay at)
         (λ c w e.
         pick_elim (λ (r : FillRead). Onward t at r.at) _ (λ _. record { reached = reached_char at.0 e; on = omega arith; inside = λ _. (peeked t at.0 e).room })
         (λ _. stay at))

@@ -1,5 +1,5 @@
 -- Where a closing brace is missing: kinds 2 and 3, and the suggestions, kinds 8 to 15, which "follow 2 .. only when two characters remain".
-use Rattle.std.specs.Prelude.{ℕ, Bool, List, eqb, ltb, length}
+use Rattle.std.specs.Prelude.{ℕ, Bool, List, eqb, ltb, length, Option, Some, None}
 use Prim.Native.Char.{code}
 use Rattle.utf8.specs.Choice.{pick, both}
 use Rattle.frame.specs.Places.{range_of}
@@ -23,9 +23,9 @@ use Rattle.closing.specs.declared.recover.Hint.{Hint}
 use Rattle.closing.specs.declared.recover.Recovery.{Recovery}
 
 -- what says why: "the fill if it is `}`, else the last opening brace" (K2, K3)
-abbrev pub because : Fill → TextPlace → TextPlace → TextPlace
-because Fill.Absent from brace = brace
-because (Fill.Present c s) from brace = pick (eqb c (code "}")) from brace
+abbrev pub because : Option Fill → TextPlace → TextPlace → TextPlace
+because None from brace = brace
+because (Some f) from brace = pick (eqb f.code (code "}")) from brace
 
 -- "2 expected `}`, found a character; 3 the same at the end" (R8.1)
 unfoldable pub gap_at : List ℕ → TextPlace → TextPlace → Gap

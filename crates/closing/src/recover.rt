@@ -1,13 +1,12 @@
 // What is said, and passed, where a closing brace is missing: suggestions from what stands there, and only when two characters remain.
 ghost use Rattle.std.specs.Prelude.{◌≡◌, ◌<◌};
 ghost use Rattle.frame.specs.Bounds.{Small};
-ghost use Rattle.utf8.specs.Choice.{both};
-ghost use Rattle.closing.specs.Defaults.{no_fill, no_align, no_sign, no_hex, no_span, is_false, is_named, no_marks, no_counts, is_default, is_identifier};
+ghost use Rattle.closing.specs.Defaults.{no_marks, no_counts, is_default, is_identifier};
 ghost use Rattle.closing.specs.Recovery.{because, gap_at, clean_flaws, passed_to, text_taken, field_hint, field_read, recover_read};
 ghost use Rattle.closing.specs.Recovering.{after_question, sign_hint, is_silent};
 
-use frame::{Frame, Mode, TextPlace, TextRange};
-use placeholder::{Align, ArgumentFlaws, Fill, Hex, MaybeSpan, Place, Sign, Spec};
+use frame::{Frame, Mode, Span, TextPlace, TextRange};
+use placeholder::{Align, ArgumentFlaws, Fill, Hex, Place, Sign, Spec};
 use scan::{Count, Flaw};
 
 // A closing brace is missing before the character at a place, or at the end; then the character that says why: the fill if it is `}`, else the
@@ -21,6 +20,7 @@ pub enum Gap {
 // What is said of what stands where a closing brace is missing.
 #[derive(Clone, Copy)]
 pub enum Hint {
+    // Nothing is said: a case like the others, so that one match tells what is.
     Silent,
     // 8: a `?` before `:`, and the word after them.
     DebugFirst(TextPlace, TextRange),
@@ -56,150 +56,46 @@ pub struct Recovery {
     pub given: usize,
 }
 
-fn and(a: bool, b: bool) -> bool
-    ensures { result ≡ both a b }
-{
-    if a { b } else { false }
-}
-
-fn not(a: bool) -> bool
-    ensures { result ≡ is_false a }
-{
-    if a { false } else { true }
-}
-
-fn no_fill(fill: Fill) -> bool
-    ensures { result ≡ no_fill fill }
-{
-    match fill {
-        Fill::Absent => true,
-        Fill::Present(_, _) => false,
-    }
-}
-
-fn no_align(align: Align) -> bool
-    ensures { result ≡ no_align align }
-{
-    match align {
-        Align::Unknown => true,
-        Align::Left => false,
-        Align::Right => false,
-        Align::Center => false,
-    }
-}
-
-fn no_sign(sign: Sign) -> bool
-    ensures { result ≡ no_sign sign }
-{
-    match sign {
-        Sign::Absent => true,
-        Sign::Plus => false,
-        Sign::Minus => false,
-    }
-}
-
-fn no_hex(hex: Hex) -> bool
-    ensures { result ≡ no_hex hex }
-{
-    match hex {
-        Hex::Absent => true,
-        Hex::Lower => false,
-        Hex::Upper => false,
-    }
-}
-
-fn no_span(span: MaybeSpan) -> bool
-    ensures { result ≡ no_span span }
-{
-    match span {
-        MaybeSpan::Absent => true,
-        MaybeSpan::Present(_) => false,
-    }
-}
-
-fn is_named(place: Place) -> bool
-    ensures { result ≡ is_named place }
-{
-    match place {
-        Place::Next(_) => false,
-        Place::At(_) => false,
-        Place::Named(_) => true,
-    }
-}
-
-// No fill, align, sign, `#`, `0` or hex.
-fn no_marks(fill: Fill, align: Align, sign: Sign, alternate: bool, zero: bool, hex: Hex) -> bool
-    ensures { result ≡ no_marks fill align sign alternate zero hex }
-{
-    and(
-        no_fill(fill),
-        and(
-            no_align(align),
-            and(
-                no_sign(sign),
-                and(not(alternate), and(not(zero), no_hex(hex))),
-            ),
-        ),
-    )
-}
-
-// No width and no precision, and no span of one.
-fn no_counts(width: Count, widthspan: MaybeSpan, precision: Count, precisionspan: MaybeSpan) -> bool
-    ensures { result ≡ no_counts width widthspan precision precisionspan }
-{
-    and(
-        placeholder::format::is_implied(width),
-        and(
-            no_span(widthspan),
-            and(
-                placeholder::format::is_implied(precision),
-                no_span(precisionspan),
-            ),
-        ),
-    )
-}
-
 // Whether a spec is the one of a placeholder without a colon, spans included.
+#[tactic(auto, unfolding(crate::specs::Defaults::no_marks, crate::specs::Defaults::no_counts, crate::specs::Defaults::is_default))]
 fn is_default(spec: Spec) -> bool
     ensures { result ≡ is_default spec }
 {
-    let fill = spec.fill;
-    let align = spec.align;
-    let sign = spec.sign;
-    let hex = spec.hex;
-    let width = spec.width;
-    let widthspan = spec.widthspan;
-    let precision = spec.precision;
-    let precisionspan = spec.precisionspan;
-    let typetext = spec.typetext;
-    let typespan = spec.typespan;
-    let marks = no_marks(fill, align, sign, spec.alternate, spec.zero, hex);
-    let counts = no_counts(width, widthspan, precision, precisionspan);
-    and(
-        marks,
-        and(counts, and(scan::is_empty(typetext), no_span(typespan))),
+    matches!(
+        spec,
+        Spec {
+            fill: None,
+            align: Align::Unknown,
+            sign: Sign::Absent,
+            alternate: false,
+            zero: false,
+            hex: Hex::Absent,
+            width: Count::Implied,
+            widthspan: None,
+            precision: Count::Implied,
+            precisionspan: None,
+            typetext,
+            typespan: None,
+        } if scan::is_empty(typetext)
     )
 }
 
 // Whether an argument is a name and nothing else.
+#[tactic(auto, unfolding(crate::specs::Defaults::is_identifier))]
 pub fn is_identifier(place: Place, spec: Spec) -> bool
     ensures { result ≡ is_identifier place spec }
 {
-    and(is_named(place), is_default(spec))
+    matches!(place, Place::Named(_)) && is_default(spec)
 }
 
 // The character that says why a `}` was expected: the fill, which stands at `from`, if it is `}`, else the opening brace.
-pub fn because_of(fill: Fill, from: TextPlace, brace: TextPlace) -> TextPlace
+#[tactic(auto, unfolding(utf8::specs::Choice::pick))]
+pub fn because_of(fill: Option<Fill>, from: TextPlace, brace: TextPlace) -> TextPlace
     ensures { result ≡ because fill from brace }
 {
     match fill {
-        Fill::Absent => brace,
-        Fill::Present(code, _) => {
-            if code == 0x7D {
-                return from;
-            }
-            brace
-        }
+        Some(Fill { code: 0x7D, .. }) => from,
+        _ => brace,
     }
 }
 
@@ -207,11 +103,11 @@ pub fn because_of(fill: Fill, from: TextPlace, brace: TextPlace) -> TextPlace
 pub fn gap_at(text: &[u8], at: TextPlace, why: TextPlace) -> Gap
     ensures { result ≡ gap_at text.now at why }
 {
-    let i = at.0;
-    if i < text.len() {
-        return Gap::Before(at, why);
+    if at.0 < text.len() {
+        Gap::Before(at, why)
+    } else {
+        Gap::AtEnd(why)
     }
-    Gap::AtEnd(why)
 }
 
 fn clean_flaws() -> ArgumentFlaws
@@ -230,12 +126,11 @@ fn clean_flaws() -> ArgumentFlaws
 fn passed_to(at: TextPlace, next: usize, hint: Hint) -> Recovery
     ensures { result ≡ passed_to at next hint }
 {
-    let field = clean_flaws();
     Recovery {
         at,
         next,
         word: Flaw::Clean,
-        field,
+        field: clean_flaws(),
         hint,
         text: TextRange { start: at, end: at },
         given: 0,
@@ -248,13 +143,13 @@ pub fn text_taken(mode: Mode, typetext: TextRange) -> TextRange
 {
     let end = typetext.end;
     match mode {
-        Mode::Format => TextRange { start: end, end },
-        Mode::InlineAsm => TextRange { start: end, end },
+        Mode::Format | Mode::InlineAsm => TextRange { start: end, end },
         Mode::Diagnostic => typetext,
     }
 }
 
 // At a `?`, whose end is `past`: `?}` lacks its colon, `?:` is in the wrong order, any other is passed silently.
+#[tactic(auto, unfolding(crate::specs::Recovering::after_question, utf8::specs::Choice::pick))]
 fn after_question(text: &[u8], at: TextPlace, past: TextPlace, next: usize) -> Recovery
     ensures { result ≡ after_question text.now at past next }
 {
@@ -262,27 +157,18 @@ fn after_question(text: &[u8], at: TextPlace, past: TextPlace, next: usize) -> R
         return passed_to(past, next, Hint::NoColon(at));
     }
     let colon = scan::consume(text, past, b':');
-    let from = colon.at;
     if colon.ate {
-        let read = scan::word(text, from);
-        let word = read.word;
-        let flaw = read.flaw;
-        let end = word.end;
-        let field = clean_flaws();
+        let read = scan::word(text, colon.at);
         return Recovery {
-            at: end,
-            next,
-            word: flaw,
-            field,
-            hint: Hint::DebugFirst(at, word),
-            text: TextRange { start: end, end },
-            given: 0,
+            word: read.flaw,
+            ..passed_to(read.word.end, next, Hint::DebugFirst(at, read.word))
         };
     }
     passed_to(past, next, Hint::Silent)
 }
 
 // What is said of an align, a `,`, an `=` before `}`, or a `+` at a place; `past` is the place after it.
+#[tactic(auto, unfolding(crate::specs::Recovering::sign_hint, utf8::specs::Choice::pick))]
 fn sign_hint(text: &[u8], at: TextPlace, past: TextPlace) -> Hint
     ensures { result ≡ sign_hint text.now at past }
 {
@@ -295,10 +181,8 @@ fn sign_hint(text: &[u8], at: TextPlace, past: TextPlace) -> Hint
     if scan::peek_is(text, at, b'+') {
         return Hint::PlusFirst(at);
     }
-    if scan::peek_is(text, at, b'=') {
-        if scan::peek_is(text, past, b'}') {
-            return Hint::Equals(at);
-        }
+    if scan::peek_is(text, at, b'=') && scan::peek_is(text, past, b'}') {
+        return Hint::Equals(at);
     }
     Hint::Silent
 }
@@ -306,17 +190,7 @@ fn sign_hint(text: &[u8], at: TextPlace, past: TextPlace) -> Hint
 pub fn is_silent(hint: Hint) -> bool
     ensures { result ≡ is_silent hint }
 {
-    match hint {
-        Hint::Silent => true,
-        Hint::DebugFirst(_, _) => false,
-        Hint::NoColon(_) => false,
-        Hint::Equals(_) => false,
-        Hint::Misplaced(_) => false,
-        Hint::PlusFirst(_) => false,
-        Hint::Field(_, _) => false,
-        Hint::TupleIndex(_, _) => false,
-        Hint::Comma(_) => false,
-    }
+    matches!(hint, Hint::Silent)
 }
 
 // A closed field is an access by name or by number; a nameless one is passed silently.
@@ -343,39 +217,24 @@ fn read_field(
     ensures { result ≡ field_read text.now frame mode from at next }
 {
     let dot = scan::consume(text, at, b'.');
-    let start = dot.at;
     if !dot.ate {
         return passed_to(at, next, Hint::Silent);
     }
-    let read = placeholder::between::argument(text, frame, mode, start, next);
-    let place = read.place;
-    let field = read.flaws;
-    let spec = read.spec;
-    let typetext = spec.typetext;
-    let taken = text_taken(mode, typetext);
-    let end = read.at;
-    let to = read.to;
-    let close = scan::consume(text, end, b'}');
-    let last = close.at;
-    if close.ate {
-        let hint = field_hint(place, from, to);
-        return Recovery {
-            at: last,
-            next: read.next,
-            word: Flaw::Clean,
-            field,
-            hint,
-            text: taken,
-            given: read.given,
-        };
-    }
+    let read = placeholder::between::argument(text, frame, mode, dot.at, next);
+    let close = scan::consume(text, read.at, b'}');
+    let hint = if close.ate {
+        field_hint(read.place, from, read.to)
+    } else {
+        Hint::Silent
+    };
+    // Without a `}`, reading stands where the field ended.
     Recovery {
-        at: end,
+        at: close.at,
         next: read.next,
         word: Flaw::Clean,
-        field,
-        hint: Hint::Silent,
-        text: taken,
+        field: read.flaws,
+        hint,
+        text: text_taken(mode, read.spec.typetext),
         given: read.given,
     }
 }

@@ -3,7 +3,7 @@ ghost use Rattle.std.specs.Prelude.{◌≡◌, ◌<◌, ◌≤◌};
 ghost use Rattle.frame.specs.Bounds.{Small};
 ghost use Rattle.closing.specs.Wholes.{record_of, missing_read, placeholder_read};
 
-use crate::recover::{Gap, Recovery};
+use crate::recover::{Gap, Recovery, because_of, gap_at, is_identifier, recover, text_taken};
 use frame::{Frame, Mode, TextPlace, TextRange};
 use placeholder::between::ArgumentRead;
 use placeholder::{Argument, ArgumentFlaws};
@@ -39,15 +39,10 @@ fn record_of(
     requires { Small text.now frame }
     ensures { result ≡ record_of text.now frame brace read end }
 {
-    let place = read.place;
-    let spec = read.spec;
-    let from = read.from;
-    let to = read.to;
-    let placespan = frame::span_between(text, frame, from, to);
     Argument {
-        place,
-        placespan,
-        spec,
+        place: read.place,
+        placespan: frame::span_between(text, frame, read.from, read.to),
+        spec: read.spec,
         range: TextRange { start: brace, end },
     }
 }
@@ -64,27 +59,17 @@ fn missing(
     requires { Small text.now frame × (read.next < 0x100000) × (read.given ≤ 131070) }
     ensures { result ≡ missing_read text.now frame mode brace read at }
 {
-    let place = read.place;
-    let spec = read.spec;
-    let fill = spec.fill;
-    let typetext = spec.typetext;
-    let flaws = read.flaws;
     // The fill stands after the colon, and the colon where the place ends.
-    let colon = read.to;
-    let why = crate::recover::because_of(fill, scan::past(text, colon), brace);
-    let gap = crate::recover::gap_at(text, at, why);
-    let identifier = crate::recover::is_identifier(place, spec);
-    let from = read.from;
-    let on = crate::recover::recover(text, frame, mode, from, identifier, at, read.next);
-    let end = on.at;
-    let argument = record_of(text, frame, brace, read, end);
-    let taken = crate::recover::text_taken(mode, typetext);
+    let why = because_of(read.spec.fill, scan::past(text, read.to), brace);
+    let gap = gap_at(text, at, why);
+    let identifier = is_identifier(read.place, read.spec);
+    let on = recover(text, frame, mode, read.from, identifier, at, read.next);
     PlaceholderRead {
-        argument,
-        text: taken,
-        flaws,
+        argument: record_of(text, frame, brace, read, on.at),
+        text: text_taken(mode, read.spec.typetext),
+        flaws: read.flaws,
         closing: Closing::Missing(gap, on),
-        at: end,
+        at: on.at,
         next: on.next,
         given: read.given + on.given,
     }
@@ -103,25 +88,18 @@ pub fn placeholder(
     ensures { result ≡ placeholder_read text.now frame mode brace at next }
 {
     let read = placeholder::between::argument(text, frame, mode, at, next);
-    let spec = read.spec;
-    let typetext = spec.typetext;
-    let flaws = read.flaws;
-    let past = read.at;
-    let end = scan::ws(text, past);
+    let end = scan::ws(text, read.at);
     let close = scan::consume(text, end, b'}');
-    let last = close.at;
-    if close.ate {
-        let argument = record_of(text, frame, brace, read, last);
-        let taken = crate::recover::text_taken(mode, typetext);
-        return PlaceholderRead {
-            argument,
-            text: taken,
-            flaws,
-            closing: Closing::Closed(end),
-            at: last,
-            next: read.next,
-            given: read.given,
-        };
+    if !close.ate {
+        return missing(text, frame, mode, brace, read, end);
     }
-    missing(text, frame, mode, brace, read, end)
+    PlaceholderRead {
+        argument: record_of(text, frame, brace, read, close.at),
+        text: text_taken(mode, read.spec.typetext),
+        flaws: read.flaws,
+        closing: Closing::Closed(end),
+        at: close.at,
+        next: read.next,
+        given: read.given,
+    }
 }

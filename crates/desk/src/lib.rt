@@ -7,7 +7,7 @@ ghost use Rattle.frame.specs.Frames.{same};
 ghost use Rattle.desk.specs.Partings.{shared};
 
 use frame::{Frame, Mode};
-use reading::{Hashes, Request};
+use reading::Request;
 use std::env::{Env, FillError};
 use std::io;
 use std::io::Write;
@@ -17,142 +17,100 @@ use tidiness::Tidied;
 pub fn parting(a: &[u8], b: &[u8]) -> usize
     ensures { result ≡ shared a.now b.now }
 {
-    let mut i = 0;
-    while i < a.len() {
-        if b.len() <= i {
-            return i;
-        }
+    let most = a.len().min(b.len());
+    for i in 0..most {
         if a[i] != b[i] {
             return i;
         }
-        i += 1;
     }
-    i
+    most
 }
 
 // Whether two lists are the same bytes.
 pub fn equal(a: &[u8], b: &[u8]) -> bool
     ensures { result ≡ same a.now b.now }
 {
-    if a.len() != b.len() {
-        return false;
-    }
-    parting(a, b) == a.len()
+    a == b
 }
 
-// The number of a mode by its word; 255, which is none, for any other.
-pub fn mode_called(word: &[u8]) -> u8 {
-    if equal(word, b"format") {
-        return 0;
+// The mode of that name.
+pub fn mode_called(word: &[u8]) -> Option<Mode> {
+    match word {
+        b"format" => Some(Mode::Format),
+        b"asm" => Some(Mode::InlineAsm),
+        b"diagnostic" => Some(Mode::Diagnostic),
+        _ => None,
     }
-    if equal(word, b"asm") {
-        return 1;
-    }
-    if equal(word, b"diagnostic") {
-        return 2;
-    }
-    255
 }
 
 // The mode that an argument of the program calls for: Format where there is none.
-pub fn mode_asked<R: Env>(rt: &R, i: usize) -> u8 {
+pub fn mode_asked<R: Env>(rt: &R, i: usize) -> Option<Mode> {
     let mut word = [0u8; 16];
     match rt.arg(i, &mut word) {
         Ok(length) => mode_called(&word[..length]),
-        Err(FillError::NotPresent) => 0,
-        Err(FillError::TooLong) => 255,
+        Err(FillError::NotPresent) => Some(Mode::Format),
+        Err(FillError::TooLong) => None,
     }
 }
 
-// What a person is told.
-pub fn say<E: Write>(err: &mut E, words: &[u8]) -> io::Result<()> {
-    err.write_all(words)
-}
-
-pub fn say_number<E: Write>(err: &mut E, n: usize) -> io::Result<()> {
-    write!(err, "{n}")
-}
-
-// A line of a table, by its number, counted from 1.
-fn say_line<E: Write>(err: &mut E, lines: &[u8], number: usize) -> io::Result<()> {
-    let mut line = 1;
-    let mut start = 0;
-    for i in 0..lines.len() {
-        if lines[i] == b'\n' {
-            if line == number {
-                return say(err, &lines[start..i]);
-            }
-            line += 1;
-            start = i + 1;
-        }
+// An error's kind in words.
+fn kind_in_words(kind: u8) -> &'static str {
+    match kind {
+        1 => "a lone `}`; write it twice to have one",
+        2 => "another character stands where a placeholder's `}` should",
+        3 => "the text ends where a placeholder's `}` should stand",
+        4 => "a name starts with `r#`",
+        5 => "`#`, `x` or `X` stands behind the `?`, and belongs before it",
+        6 => "`_` alone is no name",
+        7 => "a number is above 65,535",
+        8 => "`?:` stands where a placeholder's `}` should",
+        9 => "`?` without a `:` before it",
+        10 => "`=` stands before a placeholder's `}`",
+        11 => "`<`, `>` or `^` without a `:` before it",
+        12 => "`+` without a `:` before it",
+        13 => "a name, a dot and a name: fields are not read",
+        14 => "a name, a dot and a number: fields are not read",
+        15 => "`,` stands where a placeholder's `}` should",
+        _ => "",
     }
-    Ok(())
-}
-
-// The piece that an error was found in, and its kind in words: the table has a line for each kind.
-fn say_kind_in_piece<E: Write>(err: &mut E, piece: usize, kind: u8) -> io::Result<()> {
-    say(err, b", the first in piece ")?;
-    say_number(err, piece)?;
-    say(err, b": ")?;
-    say_line(
-        err,
-        b"a lone `}`; write it twice to have one\n\
-        another character stands where a placeholder's `}` should\n\
-        the text ends where a placeholder's `}` should stand\n\
-        a name starts with `r#`\n\
-        `#`, `x` or `X` stands behind the `?`, and belongs before it\n\
-        `_` alone is no name\n\
-        a number is above 65,535\n\
-        `?:` stands where a placeholder's `}` should\n\
-        `?` without a `:` before it\n\
-        `=` stands before a placeholder's `}`\n\
-        `<`, `>` or `^` without a `:` before it\n\
-        `+` without a `:` before it\n\
-        a name, a dot and a name: fields are not read\n\
-        a name, a dot and a number: fields are not read\n\
-        `,` stands where a placeholder's `}` should\n",
-        kind as usize,
-    )
 }
 
 // The first error that is found in a text that has one.
 fn say_first_error<E: Write>(err: &mut E, text: &[u8], frame: Frame, mode: Mode) -> io::Result<()>
     requires { Small text.now frame }
 {
-    let turn = turns::next_fault(text, frame, mode, turns::first_cursor(text), 0);
-    say_kind_in_piece(err, turn.record.piece, turn.record.kind)
+    let Some(turn) = turns::next_fault(text, frame, mode, turns::first_cursor(text), 0) else {
+        return Ok(());
+    };
+    let words = kind_in_words(turn.record.kind);
+    write!(err, ", the first in piece {}: {words}", turn.record.piece)
 }
 
 // The same of a text in a mode by its number, which may not be one.
 fn say_error<E: Write>(err: &mut E, text: &[u8], mode: u8) -> io::Result<()> {
     let request = Request {
         mode,
-        style: Hashes::Plain,
+        style: None,
         given: false,
         newline: false,
     };
-    let first = answer::decide::opened(text, b"", request);
-    if first.answer.number != 0 {
-        return Ok(());
+    match answer::decide::opened(text, b"", request) {
+        Ok(readable) => say_first_error(err, text, readable.frame, readable.mode),
+        Err(_) => Ok(()),
     }
-    say_first_error(err, text, first.frame, first.mode)
 }
 
 // Why a text has no plain form.
 pub fn say_refused<E: Write>(err: &mut E, text: &[u8], mode: u8, told: Tidied) -> io::Result<()> {
     match told.number {
-        1 => say(err, b"there is no such mode")?,
-        3 => say(err, b"it has more than 65,535 bytes")?,
-        4 => {
-            say(err, b"it is not UTF-8 from byte ")?;
-            say_number(err, told.place)?;
-            say(err, b" on")?;
-        }
+        1 => writeln!(err, "there is no such mode"),
+        3 => writeln!(err, "it has more than 65,535 bytes"),
+        4 => writeln!(err, "it is not UTF-8 from byte {} on", told.place),
         10 => {
-            say(err, b"it has errors")?;
+            write!(err, "it has errors")?;
             say_error(err, text, mode)?;
+            writeln!(err)
         }
-        _ => say(err, b"its plain form does not fit")?,
+        _ => writeln!(err, "its plain form does not fit"),
     }
-    say(err, b"\n")
 }

@@ -1,8 +1,9 @@
 -- A BARE CALL: what is decided of it before its text is read, and what it comes to. Rests on Parts, Listing and Calling.
 use Prim.Native.Nat.{ℕ, ◌≤◌, ◌<◌}
-use mathlib.Core.Path.{◌≡◌, refl, sym, ap, ◌∙◌}
+use mathlib.Core.Path.{◌≡◌, refl, sym, ap}
 use mathlib.Core.Bool.{Bool, false}
 use mathlib.Core.List.{List}
+use Rattle.std.specs.Prelude.{Ok, Err}
 use native.Mathlib.Omega.{arith}
 use borrow.Author.Tests.{lt-ltb, le-ltb}
 use lib.Dec.{ltb}
@@ -19,7 +20,8 @@ use Rattle.reading.specs.Written.{over}
 use Rattle.reading.specs.declared.Answer.{Answer}
 use Rattle.laws.specs.Deciding.{refused_as, early_number, late_answer}
 use Rattle.answer.specs.Asking.{freshly, valid_by, open_asked, OpenedBy}
-use Rattle.answer.specs.declared.Decision.{Decision}
+use Rattle.answer.specs.declared.Readable.{Readable}
+use Rattle.answer.specs.declared.Refusal.{Refusal}
 use Rattle.words.specs.Calls.{is_yes, style_of, request_of, rooms_in, answer_words, Exported}
 use Rattle.export.specs.Parts.{Roomy, Ample, Filled, Enough, bare_request, Bare, ReadBare}
 use Rattle.export.proofs.Listing.{roomy_by}
@@ -29,9 +31,9 @@ use Rattle.export.proofs.Calling.{read_refused, read_on, whole_call}
 abbrev pub bare_frame : List ℕ → Frame
 bare_frame t = record { quote = 1; end = snippet (length t); literal = false }
 
--- a decision by it
-abbrev bare_decision : List ℕ → Answer → Decision
-bare_decision t a = record { answer = a; frame = bare_frame t; mode = Mode.Format; chars = length (chars_from t 0) }
+-- a text that is read by it
+abbrev bare_readable : List ℕ → Readable
+bare_readable t = record { frame = bare_frame t; mode = Mode.Format; chars = length (chars_from t 0) }
 
 -- it is the frame of the request
 frame_is : (t s : List ℕ) → bare_frame t ≡ frame_for t s bare_request
@@ -49,9 +51,9 @@ module _ (t s : List ℕ) (short : length t ≤ 65535) where
   unfolding request_of style_of is_yes open_asked valid_by early_number late_answer is_long lacks_newline pick
   only_broken = rw (le-ltb 65535 (length t) short)
 
-  -- so a decision is made of the answer alone
-  opened : {a : Answer} → a ≡ open_asked (freshly bare_request) t s → OpenedBy t s (freshly bare_request) (bare_decision t a)
-  opened e = record { answer = e; frame = λ _. frame_is t s; mode = λ _. mode_is; chars = λ _. refl; short = λ _. short }
+  -- and where it is not one the text is read
+  opened : answered 0 0 no_counts 0 0 ≡ open_asked (freshly bare_request) t s → OpenedBy t s (freshly bare_request) (Ok (bare_readable t))
+  opened e = record { answer = e; readable = record { frame = frame_is t s; mode = mode_is; chars = refl }; short = short }
 
 module _ (t ps es : List ℕ) (x : Enough (length t) (length ps) (length es)) where
   -- a text that is not UTF-8 is refused, and no list is touched
@@ -61,8 +63,9 @@ module _ (t ps es : List ℕ) (x : Enough (length t) (length ps) (length es)) wh
       record {
         read =
             λ s ls ns.
-            let o : a ≡ open_asked (freshly bare_request) t s = g ∙ rw (only_broken t s x.text, ← e, lt-ltb v (length t) h) refl in
-            read_refused t s (freshly bare_request) ps es ls ns (opened t s x.text o) (λ z. omega (arith, ap (λ (y : Answer). y.number) g));
+            let o : refused_as 4 v ≡ open_asked (freshly bare_request) t s = rw (only_broken t s x.text, ← e, lt-ltb v (length t) h) refl in
+            let y : OpenedBy t s (freshly bare_request) (Err (Refusal.NotUtf8 v)) = record { answer = o; readable = tt; short = tt } in
+            read_refused t s (freshly bare_request) ps es ls ns y g;
       }
 
   -- any other has ample lists
@@ -78,7 +81,7 @@ module _ (t ps es : List ℕ) (x : Enough (length t) (length ps) (length es)) wh
             λ s ls ns.
             let o : answered 0 0 no_counts 0 0 ≡ open_asked (freshly bare_request) t s = rw (only_broken t s x.text, ← e, le-ltb v (length t) h) refl in
             let room : Roomy (length t) (bare_frame t) (rooms_in ps es ls ns) = record { literal = refl; pieces = omega (arith, x.pieces); errors = omega (arith, x.errors) } in
-            read_on t s (freshly bare_request) ps es ls ns (opened t s x.text o) refl (roomy_by t (bare_frame t) Mode.Format ps es ls ns refl room y);
+            read_on t s (freshly bare_request) ps es ls ns (opened t s x.text o) (roomy_by t (bare_frame t) Mode.Format ps es ls ns refl room y);
       }
 
 -- the whole call: its numbers make the bare request

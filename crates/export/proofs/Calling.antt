@@ -1,6 +1,7 @@
 -- A call: what is decided before the text is read, the lists that reading leaves, and the answer's list. Rests on Parts and answer's DecisionLaws.
 use Prim.Native.Nat.{ℕ, ◌≤◌, ◌<◌}
-use mathlib.Core.Path.{◌≡◌, ap, ◌∙◌, subst}
+use mathlib.Core.Path.{◌≡◌, ap, sym, ◌∙◌, subst}
+use Rattle.std.specs.Prelude.{Ok, Err}
 use mathlib.Core.List.{List}
 use native.Mathlib.Omega.{arith}
 use borrow.Author.Tests.{lt-ltb, le-ltb}
@@ -8,7 +9,10 @@ use lib.ListN.{length}
 use Rattle.utf8.specs.Choice.{pick}
 use Rattle.reading.specs.Lists.{places, lines}
 use Rattle.reading.specs.Answers.{frame_for, mode_for}
+use Rattle.laws.specs.Deciding.{refused_as}
+use Rattle.answer.specs.Refusals.{number_of, place_of}
 use Rattle.answer.specs.Decisions.{Decided}
+use Rattle.answer.specs.DecisionLaws.{never_zero}
 use Rattle.answer.specs.Asking.{freshly, OpenedBy}
 use Rattle.answer.specs.AskedLaws.{fresh_answer, asked_refused, asked_by_counts}
 use Rattle.answer.specs.declared.Asked.{Asked}
@@ -16,6 +20,8 @@ use Rattle.reading.specs.Written.{over, pairs}
 use Rattle.reading.specs.declared.Request.{Request}
 use Rattle.reading.specs.declared.Answer.{Answer}
 use Rattle.answer.specs.declared.Decision.{Decision}
+use Rattle.answer.specs.declared.Readable.{Readable}
+use Rattle.answer.specs.declared.Refusal.{Refusal}
 use Rattle.words.specs.Calls.{pieces_in, errors_in}
 use Rattle.words.specs.Calls.{rooms_in, answer_words, is_short, wide, Exported, Counted}
 use Rattle.export.specs.Parts.{ReadBy, Read}
@@ -23,13 +29,14 @@ use Rattle.export.proofs.Listing.{at_refused}
 
 module _ (t s : List ℕ) (q : Asked) (ps es ls ns : List ℕ) where
   -- a call that is refused before its text is read leaves all lists
-  pub read_refused : {d : Decision} → OpenedBy t s q d → (d.answer.number ≡ 0 → ⊥) → Read t s q ps ps es es ls ls ns ns d.answer
-  read_refused {d} x some =
-      let n = d.answer.number in
+  pub read_refused : {e : Refusal} {a : Answer} → OpenedBy t s q (Err e) → a ≡ refused_as (number_of e) (place_of e) → Read t s q ps ps es es ls ls ns ns a
+  read_refused {e} {a} x k =
+      let n = a.number in
       let f = frame_for t s q.request in
       let m = mode_for q.request in
+      let some : n ≡ 0 → ⊥ = λ z. never_zero e (ap (λ (y : Answer). y.number) (sym k) ∙ z) in
       record {
-        answer = asked_refused t s q x some (rooms_in ps es ls ns);
+        answer = k ∙ asked_refused t s q x (rooms_in ps es ls ns);
         lists =
             record {
               pieces = at_refused n (pieces_in t f m) ps some;
@@ -40,12 +47,12 @@ module _ (t s : List ℕ) (q : Asked) (ps es ls ns : List ℕ) where
       }
 
   -- any other is what reading its text by the frame and the mode at hand comes to
-  pub read_on : {d : Decision} {ps' es' ls' ns' : List ℕ} {a : Answer} → OpenedBy t s q d → d.answer.number ≡ 0 →
-      ReadBy t d.frame d.mode ps ps' es es' ls ls' ns ns' a → Read t s q ps ps' es es' ls ls' ns ns' a
-  read_on x z y =
+  pub read_on : {r : Readable} {ps' es' ls' ns' : List ℕ} {a : Answer} → OpenedBy t s q (Ok r) →
+      ReadBy t r.frame r.mode ps ps' es es' ls ls' ns ns' a → Read t s q ps ps' es es' ls ls' ns ns' a
+  read_on x y =
       record {
-        answer = y.answer ∙ asked_by_counts t s q x z (rooms_in ps es ls ns);
-        lists = rw (x.frame z, x.mode z) at y.lists;
+        answer = y.answer ∙ asked_by_counts t s q x (rooms_in ps es ls ns);
+        lists = rw (x.readable.frame, x.readable.mode) at y.lists;
       }
 
 module _ (t s : List ℕ) (q : Request) (ps es ls ns : List ℕ) where

@@ -1,4 +1,5 @@
 -- What lists of numbers have room for, and what they hold at exit. Rests on Calls, Parts, and the laws of answer and reading.
+use Rattle.std.specs.Prelude.{Option, Some, None}
 use Prim.Native.Nat.{ℕ, zero, suc, ◌+◌, ◌*◌, ◌≤◌}
 use mathlib.Core.Path.{◌≡◌, refl, sym, ap, ◌∙◌}
 use mathlib.Core.Bool.{false}
@@ -16,7 +17,6 @@ use Rattle.reading.specs.Lists.{pieces, errors, places, lines, counts_of}
 use Rattle.reading.specs.Wants.{wants}
 use Rattle.reading.specs.Moves.{moves}
 use Rattle.reading.specs.Steps.{step_at, onward, follow, steps_from, start, reading}
-use Rattle.reading.specs.declared.Onward.{Onward}
 use Rattle.reading.specs.declared.State.{State}
 use Rattle.laws.specs.MoveLaws.{given, given_in, stop_of, moves_told, step_given}
 use Rattle.laws.proofs.MovesTold.{moves_told_lem}
@@ -100,9 +100,9 @@ module _ (t : List ℕ) (f : Frame) (m : Mode) where
   given_sum h zero s = omega arith
   given_sum h (suc k) s = go (onward s (step_at t f m s)) (given_sum h k)
     where
-      go : (o : Onward) → ((a : State) → given_in (steps_from k t f m a) ≤ k * 262140) → given_in (step_at t f m s ∷ follow (steps_from k t f m) o) ≤ suc k * 262140
-      go Onward.Over on = omega (arith, step_given t f m s)
-      go (Onward.To a) on = omega (arith, step_given t f m s, on a)
+      go : (o : Option State) → ((a : State) → given_in (steps_from k t f m a) ≤ k * 262140) → given_in (step_at t f m s ∷ follow (steps_from k t f m) o) ≤ suc k * 262140
+      go None on = omega (arith, step_given t f m s)
+      go (Some a) on = omega (arith, step_given t f m s, on a)
 
   pub given_small : length t ≤ 65535 → {n : ℕ} → n ≡ given t f m → n ≤ 0xFFFFFFFFFFFF
   unfolding given reading

@@ -5,12 +5,11 @@ ghost use Rattle.std.specs.Prelude.{◌≡◌, true, ◌≤◌, length};
 ghost use Rattle.frame.specs.Bounds.{Small};
 ghost use Rattle.utf8.specs.Chars.{chars_from};
 ghost use Rattle.reading.specs.Written.{over};
-ghost use Rattle.laws.specs.Deciding.{refused_as};
 ghost use Rattle.words.specs.Calls.{Exported, Counted, request_of, rooms_in, answer_words};
 ghost use Rattle.export.specs.Parts.{Roomy, Ample, Filled, ReadBy, Read, Enough, Bare, ReadBare};
 
-use answer::Asked;
 use answer::decide::{decide, fresh, opened_by, room_for};
+use answer::{Asked, Refusal};
 use frame::{Frame, Mode, SnippetPlace};
 use reading::{Answer, Counts, Rooms};
 use spans::{fill_lines, fill_places};
@@ -91,26 +90,23 @@ fn counted(
 {
     let told = tally::tally(text, chars, frame, mode);
     let counts = told.counts;
-    let number = room_for(counts, rooms);
-    let done = number == 0;
-    if done {
-        fills::run::fill(text, frame, mode, pieces, errors);
-        fill_places(text, frame, mode, places);
-        fill_lines(text, frame, mode, lines);
-        return Answer {
-            number,
-            place: 0,
+    match room_for(counts, rooms) {
+        Ok(()) => {
+            fills::run::fill(text, frame, mode, pieces, errors);
+            fill_places(text, frame, mode, places);
+            fill_lines(text, frame, mode, lines);
+            Answer {
+                number: 0,
+                place: 0,
+                counts,
+                arguments: told.arguments,
+                moves: told.moves,
+            }
+        }
+        Err(refusal) => Answer {
             counts,
-            arguments: told.arguments,
-            moves: told.moves,
-        };
-    }
-    Answer {
-        number,
-        place: 0,
-        counts,
-        arguments: 0,
-        moves: 0,
+            ..Answer::from(refusal)
+        },
     }
 }
 
@@ -132,27 +128,27 @@ pub fn read_by(
         places: places.len() / 2,
         lines: lines.len() / 2,
     };
-    let first = opened_by(text, snippet, asked);
-    let answer = first.answer;
-    let frame = first.frame;
-    let mode = first.mode;
-    if answer.number != 0 {
-        return answer;
+    match opened_by(text, snippet, asked) {
+        Err(refusal) => Answer::from(refusal),
+        Ok(readable) => {
+            let frame = readable.frame;
+            let mode = readable.mode;
+            if is_roomy(text.len(), frame, rooms) {
+                return filled(text, readable.chars, frame, mode, pieces, errors);
+            }
+            counted(
+                text,
+                readable.chars,
+                frame,
+                mode,
+                rooms,
+                pieces,
+                errors,
+                places,
+                lines,
+            )
+        }
     }
-    if is_roomy(text.len(), frame, rooms) {
-        return filled(text, first.chars, frame, mode, pieces, errors);
-    }
-    counted(
-        text,
-        first.chars,
-        frame,
-        mode,
-        rooms,
-        pieces,
-        errors,
-        places,
-        lines,
-    )
 }
 
 // Whether lists of so many numbers have a record for each byte of a text of so many bytes, which is within the limit.
@@ -187,25 +183,6 @@ fn is_bare(ample: bool, mode: u8, style: u8, given: u8, newline: u8) -> bool
     ample
 }
 
-// The refusal of a text that is UTF-8 only up to a place.
-fn broken_at(place: usize) -> Answer
-    ensures { result ≡ refused_as 4 place }
-{
-    let counts = Counts {
-        pieces: 0,
-        errors: 0,
-        places: 0,
-        lines: 0,
-    };
-    Answer {
-        number: 4,
-        place,
-        counts,
-        arguments: 0,
-        moves: 0,
-    }
-}
-
 // The answer to such a call. No refusal but 4 is left, and the frame is known, so no request and no decision goes through memory: some 120 instructions
 // less a call.
 fn read_bare(text: &[u8], pieces: &mut [u32], errors: &mut [u32]) -> Answer
@@ -213,8 +190,9 @@ fn read_bare(text: &[u8], pieces: &mut [u32], errors: &mut [u32]) -> Answer
     ensures { ReadBare text.now pieces.old pieces.new errors.old errors.new result }
 {
     let checked = utf8::check_in_place(text);
-    if checked.valid < text.len() {
-        return broken_at(checked.valid);
+    let valid = checked.valid;
+    if valid < text.len() {
+        return Answer::from(Refusal::NotUtf8 { valid });
     }
     let frame = Frame {
         quote: 1,

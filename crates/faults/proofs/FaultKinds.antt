@@ -1,5 +1,6 @@
 -- Kinds by their number: those put at the front, and those that have no second span, quote nothing, or have no suggestion.
 -- Rests on the definitions of Records.
+use Rattle.std.specs.Prelude.{None}
 use Prim.Native.Nat.{ℕ}
 use mathlib.Core.Path.{◌≡◌, refl}
 use mathlib.Core.List.{List}
@@ -9,11 +10,9 @@ use Rattle.frame.specs.declared.Frame.{Frame}
 use Rattle.frame.specs.declared.TextPlace.{TextPlace}
 use Rattle.frame.specs.declared.TextRange.{TextRange}
 use Rattle.reading.specs.declared.Fault.{Fault}
-use Rattle.placeholder.specs.declared.MaybeSpan.{MaybeSpan}
 use Rattle.reading.specs.Faults.{is_clean}
 use Rattle.reading.specs.Records.{is_front}
 use Rattle.laws.specs.RecordLaws.{kind_of, second_of, quoted_of, suggestion_of}
-use Rattle.reading.specs.declared.MaybeRange.{MaybeRange}
 
 -- nothing is wrong exactly where there is no kind
 pub clean_kind : (x : Fault) → is_clean x ≡ eqb (kind_of x) 0
@@ -54,7 +53,7 @@ front_kinds (Fault.TupleIndex a b) = refl
 front_kinds (Fault.Comma p brace) = refl
 
 -- all but 2, 3, 10, 15 have no second span
-pub no_second : (t : List ℕ) (f : Frame) (x : Fault) → ((p : TextPlace) (why : TextPlace) → x ≡ Fault.Expected p why → ⊥) → ((why : TextPlace) → x ≡ Fault.Unclosed why → ⊥) → ((p : TextPlace) (brace : TextPlace) → x ≡ Fault.Equals p brace → ⊥) → ((p : TextPlace) (brace : TextPlace) → x ≡ Fault.Comma p brace → ⊥) → MaybeSpan.Absent ≡ second_of t f x
+pub no_second : (t : List ℕ) (f : Frame) (x : Fault) → ((p : TextPlace) (why : TextPlace) → x ≡ Fault.Expected p why → ⊥) → ((why : TextPlace) → x ≡ Fault.Unclosed why → ⊥) → ((p : TextPlace) (brace : TextPlace) → x ≡ Fault.Equals p brace → ⊥) → ((p : TextPlace) (brace : TextPlace) → x ≡ Fault.Comma p brace → ⊥) → None ≡ second_of t f x
 no_second t f Fault.Clean n0 n1 n2 n3 = refl
 no_second t f (Fault.Unmatched p) n0 n1 n2 n3 = refl
 no_second t f (Fault.Expected p why) n0 n1 n2 n3 = absurd (n0 p why refl)
@@ -73,7 +72,7 @@ no_second t f (Fault.TupleIndex a b) n0 n1 n2 n3 = refl
 no_second t f (Fault.Comma p brace) n0 n1 n2 n3 = absurd (n3 p brace refl)
 
 -- all but 2, 5, 7, 8, 11 quote nothing
-pub no_quote : (t : List ℕ) (x : Fault) → ((p : TextPlace) (why : TextPlace) → x ≡ Fault.Expected p why → ⊥) → ((p : TextPlace) → x ≡ Fault.AfterDebug p → ⊥) → ((r : TextRange) → x ≡ Fault.TooLarge r → ⊥) → ((p : TextPlace) (r : TextRange) → x ≡ Fault.DebugFirst p r → ⊥) → ((p : TextPlace) → x ≡ Fault.Misplaced p → ⊥) → MaybeRange.Absent ≡ quoted_of t x
+pub no_quote : (t : List ℕ) (x : Fault) → ((p : TextPlace) (why : TextPlace) → x ≡ Fault.Expected p why → ⊥) → ((p : TextPlace) → x ≡ Fault.AfterDebug p → ⊥) → ((r : TextRange) → x ≡ Fault.TooLarge r → ⊥) → ((p : TextPlace) (r : TextRange) → x ≡ Fault.DebugFirst p r → ⊥) → ((p : TextPlace) → x ≡ Fault.Misplaced p → ⊥) → None ≡ quoted_of t x
 no_quote t Fault.Clean n0 n1 n2 n3 n4 = refl
 no_quote t (Fault.Unmatched p) n0 n1 n2 n3 n4 = refl
 no_quote t (Fault.Expected p why) n0 n1 n2 n3 n4 = absurd (n0 p why refl)
@@ -92,7 +91,7 @@ no_quote t (Fault.TupleIndex a b) n0 n1 n2 n3 n4 = refl
 no_quote t (Fault.Comma p brace) n0 n1 n2 n3 n4 = refl
 
 -- all but 4, 5, 9 have no suggestion
-pub no_suggestion : (t : List ℕ) (f : Frame) (x : Fault) → ((r : TextRange) → x ≡ Fault.RawName r → ⊥) → ((p : TextPlace) → x ≡ Fault.AfterDebug p → ⊥) → ((p : TextPlace) → x ≡ Fault.NoColon p → ⊥) → MaybeSpan.Absent ≡ suggestion_of t f x
+pub no_suggestion : (t : List ℕ) (f : Frame) (x : Fault) → ((r : TextRange) → x ≡ Fault.RawName r → ⊥) → ((p : TextPlace) → x ≡ Fault.AfterDebug p → ⊥) → ((p : TextPlace) → x ≡ Fault.NoColon p → ⊥) → None ≡ suggestion_of t f x
 no_suggestion t f Fault.Clean n0 n1 n2 = refl
 no_suggestion t f (Fault.Unmatched p) n0 n1 n2 = refl
 no_suggestion t f (Fault.Expected p why) n0 n1 n2 = refl

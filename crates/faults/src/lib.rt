@@ -11,8 +11,8 @@ ghost use Rattle.faults.specs.Slots.{FirstWrong};
 use closing::recover::{Gap, Hint, Recovery};
 use closing::whole::Closing;
 use frame::{Frame, Span, TextPlace, TextRange};
-use placeholder::{ArgumentFlaws, MaybeSpan};
-use reading::{ErrorRecord, Fault, MaybeRange, Step};
+use placeholder::ArgumentFlaws;
+use reading::{ErrorRecord, Fault, Step};
 use scan::Flaw;
 
 // What a leaf found, as a fault.
@@ -55,7 +55,8 @@ pub fn of_hint(brace: TextPlace, hint: Hint) -> Fault
     }
 }
 
-// The k-th of what an argument's five parts found.
+// The k-th of what an argument's five parts found. By a match: an array of the five would be filled anew for each number.
+#[tactic(auto, using(laws::specs::FaultLaws::argument_past), unfolding(reading::specs::Faults::argument_slots))]
 fn argument_flaw(flaws: ArgumentFlaws, k: usize) -> Flaw
     ensures { flaw_fault result ≡ get_or (argument_slots flaws) k Fault.Clean }
 {
@@ -73,24 +74,17 @@ fn argument_flaw(flaws: ArgumentFlaws, k: usize) -> Flaw
 fn missing_fault(brace: TextPlace, gap: Gap, on: Recovery, k: usize) -> Fault
     ensures { result ≡ get_or (missing_slots brace gap on) k Fault.Clean }
 {
-    if k == 0 {
-        return of_gap(gap);
+    match k {
+        0 => of_gap(gap),
+        1 => of_flaw(on.word),
+        2..=6 => of_flaw(argument_flaw(on.field, k - 2)),
+        7 => of_hint(brace, on.hint),
+        _ => Fault::Clean,
     }
-    if k == 1 {
-        let word = on.word;
-        return of_flaw(word);
-    }
-    if k < 7 {
-        return of_flaw(argument_flaw(on.field, k - 2));
-    }
-    if k == 7 {
-        let hint = on.hint;
-        return of_hint(brace, hint);
-    }
-    Fault::Clean
 }
 
 // The k-th fault at a placeholder's end.
+#[tactic(auto, unfolding(reading::specs::Faults::closing_slots))]
 fn closing_fault(brace: TextPlace, closing: Closing, k: usize) -> Fault
     ensures { result ≡ get_or (closing_slots brace closing) k Fault.Clean }
 {
@@ -105,96 +99,59 @@ fn placeholder_fault(flaws: ArgumentFlaws, brace: TextPlace, closing: Closing, k
     ensures { result ≡ get_or (argument_slots flaws ++ closing_slots brace closing) k Fault.Clean }
 {
     if k < 5 {
-        return of_flaw(argument_flaw(flaws, k));
+        of_flaw(argument_flaw(flaws, k))
+    } else {
+        closing_fault(brace, closing, k - 5)
     }
-    closing_fault(brace, closing, k - 5)
-}
-
-// The k-th fault of a lone `}`: there is one.
-fn stop_fault(at: TextPlace, k: usize) -> Fault
-    ensures { result ≡ get_or (step_slots (Step.Stop at)) k Fault.Clean }
-{
-    if k == 0 {
-        return Fault::Unmatched(at);
-    }
-    Fault::Clean
 }
 
 // The k-th of what a step found wrong; `Clean` where nothing is, and past the last.
+#[tactic(auto, unfolding(reading::specs::Faults::step_slots))]
 pub fn fault_at(step: Step, k: usize) -> Fault
     ensures { result ≡ get_or (step_slots step) k Fault.Clean }
 {
     match step {
-        Step::End => Fault::Clean,
-        Step::Stop(at) => stop_fault(at, k),
-        Step::Literal(_) => Fault::Clean,
+        Step::Stop(at) if k == 0 => Fault::Unmatched(at),
+        Step::End | Step::Stop(_) | Step::Literal(_) => Fault::Clean,
         Step::Placeholder(read) => {
-            let brace = read.argument.range.start;
-            let closing = read.closing;
-            placeholder_fault(read.flaws, brace, closing, k)
+            placeholder_fault(read.flaws, read.argument.range.start, read.closing, k)
         }
     }
 }
 
-// Whether a leaf found nothing.
-fn no_flaw(flaw: Flaw) -> bool
-    ensures { result ≡ is_clean (flaw_fault flaw) }
-{
-    match flaw {
-        Flaw::Clean => true,
-        Flaw::RawName(_) => false,
-        Flaw::AfterDebug(_) => false,
-        Flaw::Underscore(_) => false,
-        Flaw::TooLarge(_) => false,
-    }
-}
-
 // Whether an argument's five parts found nothing.
+#[tactic(auto, unfolding(reading::specs::Faults::argument_slots, reading::specs::Faults::wrong, utf8::specs::Choice::pick))]
 fn no_flaws(flaws: ArgumentFlaws) -> bool
     ensures { result ≡ true → wrong (argument_slots flaws) ≡ [] }
 {
-    let place = flaws.place;
-    let raw = flaws.raw;
-    let width = flaws.width;
-    let precision = flaws.precision;
-    let typetext = flaws.typetext;
-    if !no_flaw(place) {
-        return false;
-    }
-    if !no_flaw(raw) {
-        return false;
-    }
-    if !no_flaw(width) {
-        return false;
-    }
-    if !no_flaw(precision) {
-        return false;
-    }
-    no_flaw(typetext)
+    matches!(
+        flaws,
+        ArgumentFlaws {
+            place: Flaw::Clean,
+            raw: Flaw::Clean,
+            width: Flaw::Clean,
+            precision: Flaw::Clean,
+            typetext: Flaw::Clean,
+        }
+    )
 }
 
 // Whether a placeholder is closed and found nothing wrong: most are, and then no slot is looked at.
 fn is_sound(flaws: ArgumentFlaws, closing: Closing) -> bool
     ensures { result ≡ true → (brace : TextPlace) → wrong (argument_slots flaws ++ closing_slots brace closing) ≡ [] }
 {
-    match closing {
-        Closing::Closed(_) => no_flaws(flaws),
-        Closing::Missing(_, _) => false,
-    }
+    matches!(closing, Closing::Closed(_)) && no_flaws(flaws)
 }
 
 // Whether a step surely found nothing wrong, and there is nothing to walk over.
+#[tactic(auto, unfolding(reading::specs::Faults::step_slots, reading::specs::Faults::wrong))]
 pub fn is_clear(step: Step) -> bool
     ensures { result ≡ true → wrong (step_slots step) ≡ [] }
 {
     match step {
-        Step::End => true,
+        Step::End | Step::Literal(_) => true,
         Step::Stop(_) => false,
-        Step::Literal(_) => true,
-        Step::Placeholder(read) => {
-            let closing = read.closing;
-            is_sound(read.flaws, closing)
-        }
+        Step::Placeholder(read) => is_sound(read.flaws, read.closing),
     }
 }
 
@@ -206,17 +163,15 @@ pub fn first_wrong(step: Step, slot: usize) -> usize
     if is_clear(step) {
         return 13;
     }
-    let mut k = slot;
-    while k < 13 {
+    for k in slot..13 {
         if !is_clean(fault_at(step, k)) {
             return k;
         }
-        k += 1;
     }
-    k
+    13
 }
 
-// The rules' number of a fault's kind; 0 where nothing is wrong.
+// The rules' number of a fault's kind, as records and other languages have it; 0 where nothing is wrong.
 fn kind_of(fault: Fault) -> u8
     ensures { result ≡ kind_of fault }
 {
@@ -244,21 +199,22 @@ fn kind_of(fault: Fault) -> u8
 pub fn is_clean(fault: Fault) -> bool
     ensures { result ≡ is_clean fault }
 {
-    kind_of(fault) == 0
+    matches!(fault, Fault::Clean)
 }
 
 // Whether a fault's record is put at the front: kinds 4, 5 and 8 to 15.
 pub fn is_front(fault: Fault) -> bool
     ensures { result ≡ is_front fault }
 {
-    let kind = kind_of(fault);
-    if kind == 4 {
-        return true;
+    match fault {
+        Fault::Clean
+        | Fault::Unmatched(_)
+        | Fault::Expected(_, _)
+        | Fault::Unclosed(_)
+        | Fault::Underscore(_)
+        | Fault::TooLarge(_) => false,
+        _ => true,
     }
-    if kind == 5 {
-        return true;
-    }
-    8 <= kind
 }
 
 // Where a fault is shown.
@@ -266,94 +222,86 @@ fn span_of(text: &[u8], frame: Frame, fault: Fault) -> Span
     requires { Small text.now frame }
     ensures { result ≡ span_of_fault text.now frame fault }
 {
-    let end = frame.end;
     match fault {
-        Fault::Clean => Span { start: end, end },
-        Fault::Unmatched(at) => scan::span_across(text, frame, at, at),
+        Fault::Clean | Fault::Unclosed(_) => Span {
+            start: frame.end,
+            end: frame.end,
+        },
+        Fault::Unmatched(at)
+        | Fault::DebugFirst(at, _)
+        | Fault::NoColon(at)
+        | Fault::Equals(at, _)
+        | Fault::Misplaced(at)
+        | Fault::PlusFirst(at)
+        | Fault::Comma(at, _) => scan::span_across(text, frame, at, at),
         Fault::Expected(at, _) => frame::span_between(text, frame, at, at),
-        Fault::Unclosed(_) => Span { start: end, end },
-        Fault::RawName(name) => frame::span_between(text, frame, name.start, name.end),
         Fault::AfterDebug(at) => {
             let sign = scan::past(text, at);
             scan::span_across(text, frame, sign, sign)
         }
-        Fault::Underscore(word) => frame::span_between(text, frame, word.start, word.end),
+        Fault::RawName(range) | Fault::Underscore(range) => {
+            frame::span_between(text, frame, range.start, range.end)
+        }
         Fault::TooLarge(digits) => scan::span_across(text, frame, digits.start, digits.end),
-        Fault::DebugFirst(at, _) => scan::span_across(text, frame, at, at),
-        Fault::NoColon(at) => scan::span_across(text, frame, at, at),
-        Fault::Equals(at, _) => scan::span_across(text, frame, at, at),
-        Fault::Misplaced(at) => scan::span_across(text, frame, at, at),
-        Fault::PlusFirst(at) => scan::span_across(text, frame, at, at),
-        Fault::Field(from, to) => frame::span_between(text, frame, from, to),
-        Fault::TupleIndex(from, to) => frame::span_between(text, frame, from, to),
-        Fault::Comma(at, _) => scan::span_across(text, frame, at, at),
+        Fault::Field(from, to) | Fault::TupleIndex(from, to) => {
+            frame::span_between(text, frame, from, to)
+        }
     }
 }
 
 // The span of the character at a place.
-fn span_at(text: &[u8], frame: Frame, at: TextPlace) -> MaybeSpan
+fn span_at(text: &[u8], frame: Frame, at: TextPlace) -> Option<Span>
     requires { Small text.now frame }
     ensures { result ≡ span_at text.now frame at }
 {
-    MaybeSpan::Present(scan::span_across(text, frame, at, at))
+    Some(scan::span_across(text, frame, at, at))
 }
 
 // The second span: the character that says why a `}` was expected, or the opening brace.
-fn second_of(text: &[u8], frame: Frame, fault: Fault) -> MaybeSpan
+fn second_of(text: &[u8], frame: Frame, fault: Fault) -> Option<Span>
     requires { Small text.now frame }
     ensures { result ≡ second_of text.now frame fault }
 {
     match fault {
-        Fault::Expected(_, why) => span_at(text, frame, why),
-        Fault::Unclosed(why) => span_at(text, frame, why),
-        Fault::Equals(_, brace) => span_at(text, frame, brace),
-        Fault::Comma(_, brace) => span_at(text, frame, brace),
-        _ => MaybeSpan::Absent,
+        Fault::Expected(_, at) | Fault::Unclosed(at) | Fault::Equals(_, at) | Fault::Comma(_, at) =>
+            { span_at(text, frame, at) }
+        _ => None,
     }
 }
 
 // The bytes of the character at a place.
-fn character_at(text: &[u8], at: TextPlace) -> MaybeRange
+fn character_at(text: &[u8], at: TextPlace) -> Option<TextRange>
     ensures { result ≡ character_at text.now at }
 {
-    let end = scan::past(text, at);
-    MaybeRange::Present(TextRange { start: at, end })
+    Some(TextRange {
+        start: at,
+        end: scan::past(text, at),
+    })
 }
 
 // What is quoted of the text.
-fn quoted_of(text: &[u8], fault: Fault) -> MaybeRange
+fn quoted_of(text: &[u8], fault: Fault) -> Option<TextRange>
     ensures { result ≡ quoted_of text.now fault }
 {
     match fault {
-        Fault::Expected(at, _) => character_at(text, at),
-        Fault::AfterDebug(at) => {
-            let sign = scan::past(text, at);
-            character_at(text, sign)
-        }
-        Fault::TooLarge(digits) => MaybeRange::Present(digits),
-        Fault::DebugFirst(_, word) => MaybeRange::Present(word),
-        Fault::Misplaced(at) => character_at(text, at),
-        _ => MaybeRange::Absent,
+        Fault::Expected(at, _) | Fault::Misplaced(at) => character_at(text, at),
+        Fault::AfterDebug(at) => character_at(text, scan::past(text, at)),
+        Fault::TooLarge(part) | Fault::DebugFirst(_, part) => Some(part),
+        _ => None,
     }
 }
 
 // The suggestion's span: from the character at a place to the one after it, or that character alone.
-fn suggestion_of(text: &[u8], frame: Frame, fault: Fault) -> MaybeSpan
+fn suggestion_of(text: &[u8], frame: Frame, fault: Fault) -> Option<Span>
     requires { Small text.now frame }
     ensures { result ≡ suggestion_of text.now frame fault }
 {
     match fault {
-        Fault::RawName(name) => {
-            let at = name.start;
-            let hash = scan::past(text, at);
-            MaybeSpan::Present(scan::span_across(text, frame, at, hash))
-        }
-        Fault::AfterDebug(at) => {
-            let sign = scan::past(text, at);
-            MaybeSpan::Present(scan::span_across(text, frame, at, sign))
+        Fault::RawName(TextRange { start: at, .. }) | Fault::AfterDebug(at) => {
+            Some(scan::span_across(text, frame, at, scan::past(text, at)))
         }
         Fault::NoColon(at) => span_at(text, frame, at),
-        _ => MaybeSpan::Absent,
+        _ => None,
     }
 }
 
@@ -362,16 +310,12 @@ pub fn record_of(text: &[u8], frame: Frame, fault: Fault, piece: usize) -> Error
     requires { Small text.now frame }
     ensures { result ≡ record_of text.now frame piece fault }
 {
-    let span = span_of(text, frame, fault);
-    let second = second_of(text, frame, fault);
-    let quoted = quoted_of(text, fault);
-    let suggestion = suggestion_of(text, frame, fault);
     ErrorRecord {
         kind: kind_of(fault),
-        span,
-        second,
-        quoted,
-        suggestion,
+        span: span_of(text, frame, fault),
+        second: second_of(text, frame, fault),
+        quoted: quoted_of(text, fault),
+        suggestion: suggestion_of(text, frame, fault),
         piece,
     }
 }

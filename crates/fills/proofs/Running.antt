@@ -1,8 +1,8 @@
 -- A whole text written step by step: some pieces and records are written, the steps left give the rest. Then what the two runs of `fill` leave.
 -- Rests on StepsWritten, Filling, Noting and Overlays, and on `laws`' WalkLaws, FaultLaws and ListLaws.
+use Rattle.std.specs.Prelude.{Option, Some, None}
 use Prim.Native.Nat.{ℕ, zero, suc, ◌+◌, ◌-◌, ◌*◌, ◌≤◌, ◌<◌}
 use mathlib.Core.Path.{◌≡◌, refl, sym, ap, subst, ◌∙◌}
-use mathlib.Core.Bool.{true, false, true≢false}
 use mathlib.Core.List.{List, [], ◌∷◌, ◌++◌}
 use native.Mathlib.Nat.{zero-add}
 use native.Mathlib.Omega.{arith}
@@ -19,7 +19,6 @@ use Rattle.laws.specs.StepLaws.{step_later}
 use Rattle.laws.specs.StateLaws.{last_state, last_on, last_over, arguments_all}
 use Rattle.reading.specs.Wants.{wants}
 use Rattle.laws.specs.WalkLaws.{Kept, kept_start, kept_on, steps_some, steps_on, steps_over}
-use Rattle.reading.specs.declared.Onward.{Onward}
 use Rattle.reading.specs.declared.Piece.{Piece}
 use Rattle.reading.specs.declared.State.{State}
 use Rattle.reading.specs.declared.Step.{Step}
@@ -160,10 +159,10 @@ module _ (t : List ℕ) (f : Frame) (m : Mode) where
 
       module _ {o : StepWritten} {ps' es' : List ℕ} (h : 0 < left) (d : SteppedOn t f m s r ps es o ps' es') where
         -- reading goes on
-        going_on : o.more ≡ true → Going t f m k ps₀ es₀ ps' es' o.state o.extent (left - 1)
-        going_on y =
-            let to = d.on y in
-            let more = steps_from (left - 1) t f m o.state in
+        going_on : {a : State} → o.next ≡ Some a → Going t f m k ps₀ es₀ ps' es' a o.extent (left - 1)
+        going_on {a} y =
+            let to = sym d.next ∙ y in
+            let more = steps_from (left - 1) t f m a in
             let e = steps_on t f m s refl left h to in
             record {
               pieces = pieces_on d.stepped more e;
@@ -175,14 +174,14 @@ module _ (t : List ℕ) (f : Frame) (m : Mode) where
             }
 
         -- it is over
-        going_over : o.more ≡ false → Ran t f m k ps₀ es₀ o.extent ps' es'
+        going_over : o.next ≡ None → Ran t f m k ps₀ es₀ o.extent ps' es'
         unfolding gather
         going_over n =
-            let e = steps_over t f m s refl left h (d.over n) in
+            let e = steps_over t f m s refl left h (sym d.next ∙ n) in
             ran (pieces_on d.stepped [] e) (rw findings_none at (errors_on d.stepped [] e))
 
-        wanted_over : o.more ≡ false → s.arguments ≡ wants (pieces t f m)
-        wanted_over n = ap (λ (s : State). s.arguments) (sym (last_over t f m s refl left (d.over n)) ∙ g.last) ∙ arguments_all t f m
+        wanted_over : o.next ≡ None → s.arguments ≡ wants (pieces t f m)
+        wanted_over n = ap (λ (s : State). s.arguments) (sym (last_over t f m s refl left (sym d.next ∙ n)) ∙ g.last) ∙ arguments_all t f m
 
 -- PIECES MORE, laid after others
 laid_more : (ps : List ℕ) (n : ℕ) (xs ys : List Piece) → 40 * (n + length xs + length ys) ≤ length ps →
@@ -205,10 +204,10 @@ unfolding steps_from given_in
 given_some t f m h zero s = omega arith
 given_some t f m h (suc k) s = go (onward s (step_at t f m s)) (λ a. given_some t f m h k a)
   where
-    go : (o : Onward) → ((a : State) → given_in (steps_from k t f m a) ≤ 262140 * k) →
+    go : (o : Option State) → ((a : State) → given_in (steps_from k t f m a) ≤ 262140 * k) →
         given_by (step_at t f m s) + given_in (follow (steps_from k t f m) o) ≤ 262140 * suc k
-    go Onward.Over rest = omega (arith, step_given t f m s, h)
-    go (Onward.To a) rest = omega (arith, step_given t f m s, h, rest a)
+    go None rest = omega (arith, step_given t f m s, h)
+    go (Some a) rest = omega (arith, step_given t f m s, h, rest a)
 
 pub given_all : (t : List ℕ) (f : Frame) (m : Mode) → length t ≤ 65535 → given t f m ≤ 262140 * 65536
 unfolding given reading
@@ -244,23 +243,23 @@ module _ (t : List ℕ) (f : Frame) (m : Mode) (k : ℕ) (ps₀ es₀ : List ℕ
 
     module _ {o : StepWritten} {ps' es' : List ℕ} (d : SteppedOn t f m s r ps es o ps' es') where
       -- reading goes on
-      pub underway_on : o.more ≡ true → Underway t f m k ps₀ es₀ ps' es' o.state o.extent (g + o.given)
+      pub underway_on : {a : State} → o.next ≡ Some a → Underway t f m k ps₀ es₀ ps' es' a o.extent (g + o.given)
       underway_on y =
           record {
             left = u.left - 1;
             going = going_on t f m k ps₀ es₀ room s u.left u.going one_left d y;
-            back = omega (arith, u.back, d.given, given_on t f m s refl u.left one_left (d.on y));
+            back = omega (arith, u.back, d.given, given_on t f m s refl u.left one_left (sym d.next ∙ y));
           }
 
       -- it is over
-      pub underway_over : o.more ≡ false → Ran t f m k ps₀ es₀ o.extent ps' es' × Figures t f m s.arguments (g + o.given) s.at.0
+      pub underway_over : o.next ≡ None → Ran t f m k ps₀ es₀ o.extent ps' es' × Figures t f m s.arguments (g + o.given) s.at.0
       unfolding stop_of
       underway_over n = (
         going_over t f m k ps₀ es₀ room s u.left u.going one_left d n,
         record {
           wanted = wanted_over t f m k ps₀ es₀ room s u.left u.going one_left d n;
-          gave = omega (arith, u.back, d.given, given_last t f m s refl u.left one_left (d.over n));
-          stopped = ap (λ (s : State). s.at.0) (sym (last_over t f m s refl u.left (d.over n)) ∙ u.going.last);
+          gave = omega (arith, u.back, d.given, given_last t f m s refl u.left one_left (sym d.next ∙ n));
+          stopped = ap (λ (s : State). s.at.0) (sym (last_over t f m s refl u.left (sym d.next ∙ n)) ∙ u.going.last);
         },
       )
 
@@ -269,15 +268,14 @@ module _ (t : List ℕ) (f : Frame) (m : Mode) (k : ℕ) (ps₀ es₀ : List ℕ
         Underway t f m k ps₀ es₀ (laid ps (40 * r.pieces) (gather piece_words (pieces_of (step_at t f m s)))) es a (further r (r.pieces + length (pieces_of (step_at t f m s)))) (g + given_by (step_at t f m s))
     unfolding wrong
     clear_on {a} c =
-        underway_on {o = record { more = true; state = a; extent = further r (r.pieces + length (pieces_of (step_at t f m s))); given = given_by (step_at t f m s) }}
+        underway_on {o = record { next = Some a; extent = further r (r.pieces + length (pieces_of (step_at t f m s))); given = given_by (step_at t f m s) }}
         (record {
           stepped = record {
             pieces = refl;
             wrote = refl;
             noted = sym (rw (noticed_same r.pieces (step_slots (step_at t f m s)) [] c.clean, noticed_none r.pieces) (notes_none t f (noted_by r es)));
           };
-          on = λ _. c.goes;
-          over = λ n. absurd (true≢false n);
+          next = sym c.goes;
           given = refl;
         })
         refl
@@ -343,8 +341,8 @@ module _ (t : List ℕ) (f : Frame) (m : Mode) where
   way_late {s} (Way.more {xs} {h} {a} {b} w c) = omega (arith, way_late w, (step_later t f m a c.goes).on)
 
   pub run_later : {s a : State} {xs : List Piece} {h : ℕ} → Way t f m s xs h a → {r : Extent} {ps es : List ℕ} {o : StepWritten} {ps' es' : List ℕ} →
-      SteppedOn t f m a r ps es o ps' es' → o.more ≡ true → length t - o.state.at.0 < length t - s.at.0
-  run_later {s} {a} w d y = let l = step_later t f m a (d.on y) in omega (arith, way_late w, l.within, l.on)
+      SteppedOn t f m a r ps es o ps' es' → {b : State} → o.next ≡ Some b → length t - b.at.0 < length t - s.at.0
+  run_later {s} {a} w d y = let l = step_later t f m a (sym d.next ∙ y) in omega (arith, way_late w, l.within, l.on)
 
 -- TWO RUNS
 no_faults : (xs : List Finding) → length xs ≡ 0 → xs ≡ []

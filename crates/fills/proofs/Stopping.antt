@@ -1,7 +1,8 @@
 -- The step where the lane stopped, written: what is told there, or the plain step. Rests on Lane, Stepping and Passing, and on writing's Stepping.
+use Rattle.std.specs.Prelude.{None, Some}
 use Prim.Native.Nat.{ℕ, ◌+◌, ◌*◌, ◌≤◌}
-use mathlib.Core.Path.{◌≡◌, refl, ◌∙◌}
-use mathlib.Core.Bool.{true, false}
+use mathlib.Core.Path.{◌≡◌, refl, sym, ◌∙◌}
+use mathlib.Core.Bool.{true}
 use mathlib.Core.List.{List}
 use lib.ListN.{length}
 use Rattle.frame.specs.declared.Frame.{Frame}
@@ -9,15 +10,14 @@ use Rattle.frame.specs.declared.Mode.{Mode}
 use Rattle.reading.specs.Steps.{step_at}
 use Rattle.reading.specs.declared.State.{State}
 use Rattle.reading.specs.declared.Step.{Step}
-use Rattle.quick.specs.Tellings.{argument_of, told_read, Tells}
-use Rattle.words.specs.Layout.{argument_words}
+use Rattle.quick.specs.Tellings.{told_read}
 use Rattle.passing.specs.After.{told_state}
-use Rattle.told.specs.Told.{PutOrLeft}
+use Rattle.told.specs.Told.{ToldAndPut}
 use Rattle.quick.specs.declared.PlaceholderTold.{PlaceholderTold}
 use Rattle.writing.specs.StepsWritten.{noted_by, noticed, Room, Notes, one_more, StepRoom, SteppedOn}
 use Rattle.writing.specs.declared.Extent.{Extent}
 use Rattle.writing.specs.declared.StepWritten.{StepWritten}
-use Rattle.writing.proofs.Stepping.{stepped_end, stepped_on, stepped_over}
+use Rattle.writing.proofs.Stepping.{stepped_end, stepped_on}
 use Rattle.wrongs.specs.Wrongs.{told_slots}
 use Rattle.fills.specs.Lane.{Tried}
 use Rattle.passing.specs.Clear.{OpenAt}
@@ -27,8 +27,8 @@ use Rattle.fills.proofs.Passing.{open_fits}
 
 -- AT THE END of the text nothing is written
 pub left_end : (t : List ℕ) (f : Frame) (m : Mode) (s : State) {k : Extent} {ps es : List ℕ} → length t ≤ s.at.0 →
-    SteppedOn t f m s k ps es (record { more = false; state = s; extent = k; given = 0 }) ps es
-left_end t f m s e = stepped_over t f m s (step_end t f m s e) (stepped_end t f) refl s refl
+    SteppedOn t f m s k ps es (record { next = None; extent = k; given = 0 }) ps es
+left_end t f m s e = stepped_on t f m s (step_end t f m s e) (stepped_end t f) refl refl
 
 -- WHAT WAS TRIED before a step is gone when its piece is written
 pub left_over : (t : List ℕ) (f : Frame) (m : Mode) (s : State) {k : Extent} {ps ps₁ es : List ℕ} → Tried t f m s k.pieces ps ps₁ →
@@ -36,8 +36,7 @@ pub left_over : (t : List ℕ) (f : Frame) (m : Mode) (s : State) {k : Extent} {
 left_over t f m s w d =
     record {
       stepped = record { pieces = d.stepped.pieces; wrote = d.stepped.wrote ∙ w.left; noted = d.stepped.noted };
-      on = d.on;
-      over = d.over;
+      next = d.next;
       given = d.given;
     }
 
@@ -47,10 +46,9 @@ module _ (t : List ℕ) (f : Frame) (s : State) (o : OpenAt t s.at.0) {k : Exten
   pub one_fits : 40 * k.pieces + 40 ≤ length ps
   one_fits = open_fits t f Mode.Format s k.pieces ps o.within o.brace o.alone r.pieces
 
-  module _ {x : PlaceholderTold} {ps₁ : List ℕ} (l : Tells t (s.at.0 + 1) x)
-      (w : PutOrLeft x.ok (40 * k.pieces) (argument_words (argument_of t f s.at.0 s.next x)) ps ps₁) (y : x.ok ≡ true) where
+  module _ {x : PlaceholderTold} {ps₁ : List ℕ} (w : ToldAndPut t f s.at.0 s.next (40 * k.pieces) ps ps₁ x) where
     step : Step.Placeholder (told_read t f s.at.0 s.next x) ≡ step_at t f Mode.Format s
-    step = step_told t f Mode.Format s x o.within o.brace o.alone l y refl
+    step = step_told t f Mode.Format s x o.within o.brace o.alone w.tells refl
 
     -- there is room for the records of what is told
     pub told_here : Room (noted_by k es) (noticed k.pieces (told_slots t s.at.0 x))
@@ -58,6 +56,6 @@ module _ (t : List ℕ) (f : Frame) (s : State) (o : OpenAt t s.at.0) {k : Exten
 
     -- and they are all that is left
     pub open_told : {a : State} → a ≡ told_state s x → {q r₁ : Extent} {es₂ : List ℕ} → Notes t f k es (told_slots t s.at.0 x) q es₂ → r₁ ≡ one_more q →
-        SteppedOn t f Mode.Format s k ps es (record { more = true; state = a; extent = r₁; given = x.spec.given }) ps₁ es₂
+        SteppedOn t f Mode.Format s k ps es (record { next = Some a; extent = r₁; given = x.spec.given }) ps₁ es₂
     unfolding told_read
-    open_told e n z = stepped_on t f Mode.Format s step (stepped_told t f s.at.0 s.next x (w.wrote y) n z) refl (told_on t f s x e)
+    open_told e n z = stepped_on t f Mode.Format s step (stepped_told t f s.at.0 s.next x w.wrote n z) refl (sym (told_on t f s x e))

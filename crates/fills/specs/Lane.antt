@@ -1,5 +1,5 @@
 -- The lane, and a whole text. Rests on passing's Clear, writing's StepsWritten and reading's Lists.
-use Rattle.std.specs.Prelude.{ℕ, ◌+◌, ◌*◌, ◌≤◌, ◌<◌, ◌≡◌, true, false, List, [], ◌++◌, length}
+use Rattle.std.specs.Prelude.{ℕ, ◌+◌, ◌*◌, ◌≤◌, ◌<◌, ◌≡◌, List, [], ◌++◌, length, Option, None, Some}
 use Rattle.frame.specs.declared.Frame.{Frame}
 use Rattle.frame.specs.declared.Mode.{Mode}
 use Rattle.reading.specs.Lists.{gather, pieces_of, pieces, found}
@@ -14,7 +14,7 @@ use Rattle.words.specs.Layout.{piece_words}
 use Rattle.writing.specs.StepsWritten.{Noted, noted_by, notes}
 use Rattle.writing.specs.declared.Extent.{Extent}
 use Rattle.words.specs.Calls.{pieces_in}
-use Rattle.passing.specs.Clear.{Clear, Passes}
+use Rattle.passing.specs.Clear.{Clear, PassedStep}
 use Rattle.passing.specs.declared.Passed.{Passed}
 use Rattle.fills.specs.declared.lane.Stopped.{Stopped}
 
@@ -22,10 +22,15 @@ use Rattle.fills.specs.declared.lane.Stopped.{Stopped}
 pub record Tried (t : List ℕ) (f : Frame) (m : Mode) (s : State) (n : ℕ) (ps ps' : List ℕ) : Type 0 where
   pub left : laid ps' (40 * n) (gather piece_words (pieces_of (step_at t f m s))) ≡ laid ps (40 * n) (gather piece_words (pieces_of (step_at t f m s)))
 
-pub record PassedBy (t : List ℕ) (f : Frame) (m : Mode) (s : State) (n : ℕ) (ps : List ℕ) (r : Passed) (ps' : List ℕ) : Type 0 where
-  pub passes : Passes t f m s r
-  pub wrote : r.on ≡ true → ps' ≡ laid ps (40 * n) (gather piece_words (pieces_of (step_at t f m s)))
-  pub tried : r.on ≡ false → Tried t f m s n ps ps'
+-- A STEP THAT IS PASSED: its piece is written
+pub record PassedHere (t : List ℕ) (f : Frame) (m : Mode) (s : State) (n : ℕ) (ps : List ℕ) (r : Passed) (ps' : List ℕ) : Type 0 where
+  pub passes : PassedStep t f m s r
+  pub wrote : ps' ≡ laid ps (40 * n) (gather piece_words (pieces_of (step_at t f m s)))
+
+-- a step, passed or not
+abbrev pub PassedBy : List ℕ → Frame → Mode → State → ℕ → List ℕ → Option Passed → List ℕ → Type 0
+PassedBy t f m s n ps None ps' = Tried t f m s n ps ps'
+PassedBy t f m s n ps (Some r) ps' = PassedHere t f m s n ps r ps'
 
 -- SUCH STEPS ONE AFTER ANOTHER, from a state to another: the pieces that they give, and how much they give back
 pub data Way (t : List ℕ) (f : Frame) (m : Mode) (s : State) : List Piece → ℕ → State → Type 0 where

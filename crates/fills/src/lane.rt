@@ -13,7 +13,7 @@ ghost use Rattle.fills.specs.Lane.{PassedBy, LaneRoom, LaneRan};
 use frame::{Frame, Mode, TextPlace, TextRange};
 use literal::literal_end;
 use passing::after::after_told;
-use passing::{Passed, is_open, speaks, stay};
+use passing::{Passed, is_open, speaks};
 use reading::State;
 use told::whole::write_placeholder;
 use words::put_literal;
@@ -37,21 +37,20 @@ fn pass_literal(
     n: usize,
     pieces: &mut [u32],
     view: TextRange,
-) -> Passed
+) -> Option<Passed>
     requires { (Steps.Literal view ≡ step_at text.now frame mode state) × (40 * (n + length (pieces_of (step_at text.now frame mode state))) ≤ length pieces.old) }
     ensures { PassedBy text.now frame mode state n pieces.old result pieces.new }
 {
     let at = view.end;
     put_literal(pieces, n, view.start.0, at.0);
-    Passed {
-        on: true,
+    Some(Passed {
         state: State {
             at,
             next: state.next,
             arguments: state.arguments,
         },
         given: 0,
-    }
+    })
 }
 
 // The step at the first of two braces: literal text, whose view starts at the second. The text behind takes a call: a second look in place would make both a
@@ -63,7 +62,7 @@ fn pass_doubled(
     state: State,
     n: usize,
     pieces: &mut [u32],
-) -> Passed
+) -> Option<Passed>
     requires { Small text.now frame × (40 * (n + length (pieces_of (step_at text.now frame mode state))) ≤ length pieces.old) × Doubled text.now state.at.0 }
     ensures { PassedBy text.now frame mode state n pieces.old result pieces.new }
 {
@@ -89,7 +88,7 @@ fn pass_brace(
     state: State,
     n: usize,
     pieces: &mut [u32],
-) -> Passed
+) -> Option<Passed>
     requires { Small text.now frame × (state.next < 0xFFFFE) × (40 * (n + length (pieces_of (step_at text.now frame mode state))) ≤ length pieces.old) × (get_or text.now state.at.0 0 ≡ 0x7B) × (state.at.0 < length text.now) }
     ensures { PassedBy text.now frame mode state n pieces.old result pieces.new }
 {
@@ -97,30 +96,34 @@ fn pass_brace(
     if utf8::byte(text, i + 1) == b'{' {
         return pass_doubled(text, frame, mode, state, n, pieces);
     }
-    let told = flawless::write(pieces, n, text, frame, i, state.next);
-    if !told.ok {
-        return stay(state);
-    }
+    let Some(told) = flawless::write(pieces, n, text, frame, i, state.next) else {
+        return None;
+    };
     if !speaks(mode, told.colon) {
-        return stay(state);
+        return None;
     }
-    let spec = told.spec;
-    Passed {
-        on: true,
+    Some(Passed {
         state: after_told(state, told),
-        given: spec.given,
-    }
+        given: told.spec.given,
+    })
 }
 
 // The step where reading stands: passed where it is literal text, or a placeholder that `flawless` tells.
-fn pass(text: &[u8], frame: Frame, mode: Mode, state: State, n: usize, pieces: &mut [u32]) -> Passed
+fn pass(
+    text: &[u8],
+    frame: Frame,
+    mode: Mode,
+    state: State,
+    n: usize,
+    pieces: &mut [u32],
+) -> Option<Passed>
     requires { Small text.now frame × (state.next < 0xFFFFE) × (40 * (n + length (pieces_of (step_at text.now frame mode state))) ≤ length pieces.old) }
     ensures { PassedBy text.now frame mode state n pieces.old result pieces.new }
 {
     let at = state.at;
     let i = at.0;
     if text.len() <= i {
-        return stay(state);
+        return None;
     }
     let b = text[i];
     if b == b'{' {
@@ -130,7 +133,7 @@ fn pass(text: &[u8], frame: Frame, mode: Mode, state: State, n: usize, pieces: &
         if utf8::byte(text, i + 1) == b'}' {
             return pass_doubled(text, frame, mode, state, n, pieces);
         }
-        return stay(state);
+        return None;
     }
     let end = literal_end(text, at);
     pass_literal(
@@ -167,15 +170,14 @@ fn lane(
             next,
             arguments,
         };
-        let step = pass(text, frame, mode, state, n, &mut *pieces);
-        let after = step.state;
-        if !step.on {
+        let Some(step) = pass(text, frame, mode, state, n, &mut *pieces) else {
             return Stopped {
                 state,
                 pieces: n,
                 given,
             };
-        }
+        };
+        let after = step.state;
         at = after.at.0;
         next = after.next;
         arguments = after.arguments;
@@ -258,8 +260,8 @@ fn write_open(
     ensures { SteppedOn text.now frame Modes.Format state extent pieces.old errors.old result pieces.new errors.new }
 {
     let i = state.at.0;
-    let told = write_placeholder(&mut *pieces, extent.pieces, text, frame, i, state.next);
-    if !told.ok {
+    let Some(told) = write_placeholder(&mut *pieces, extent.pieces, text, frame, i, state.next)
+    else {
         return write_step(
             utf8::whole(text),
             own_frame(frame),
@@ -269,13 +271,11 @@ fn write_open(
             errors,
             own_extent(extent),
         );
-    }
-    let spec = told.spec;
+    };
     StepWritten {
-        more: true,
-        state: after_told(state, told),
+        next: Some(after_told(state, told)),
         extent: one_more(put_wrongs(text, frame, i, told, errors, extent)),
-        given: spec.given,
+        given: told.spec.given,
     }
 }
 

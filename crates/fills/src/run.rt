@@ -82,15 +82,15 @@ fn run(
         );
         extent = step.extent;
         given = given + stopped.given + step.given;
-        if !step.more {
+        let Some(next) = step.next else {
             return Written {
                 extent,
                 arguments: reached.arguments,
                 given,
                 stop: reached.at.0,
             };
-        }
-        state = step.state;
+        };
+        state = next;
     }
 }
 

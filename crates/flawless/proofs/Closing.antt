@@ -14,19 +14,20 @@ use Rattle.letters.specs.Ascii.{ascii_start}
 use Rattle.letters.specs.Questions.{is_space}
 use Rattle.frame.specs.Places.{place}
 use Rattle.scan.specs.Words.{word_end}
-use Rattle.quick.specs.declared.PartTold.{PartTold}
+use Rattle.quick.specs.declared.PlacePart.{PlacePart}
+use Rattle.quick.specs.declared.CountKind.{CountKind}
+use Rattle.quick.specs.declared.CountPart.{CountPart}
 use Rattle.quick.specs.declared.PlaceholderTold.{PlaceholderTold}
 use Rattle.quick.specs.declared.SignHint.{SignHint}
 use Rattle.quick.specs.declared.SpecTold.{SpecTold}
-use Rattle.quick.specs.declared.TypeTold.{TypeTold}
-use Rattle.quick.specs.PartsTold.{Known, blank_word, raw_word, sign_byte, type_none, TypeKnown, AllTold, SpecKnown, NoSpec, PlaceEnds}
+use Rattle.quick.specs.PartsTold.{blank_word, raw_word, sign_byte, type_none, TypeKnown, SpecKnown, NoSpec, PlaceEnds}
 use Rattle.quick.specs.Tellings.{Tells, Flawless}
 use Rattle.scan.specs.AsciiWordLaws.{word_none}
 use Rattle.quick.proofs.Bytes.{no_space}
 use Rattle.quick.proofs.Parts.{type_named}
 use Rattle.quick.proofs.Wholes.{tells, closed_ending, sound_spec, sound_bare}
-use Rattle.told.specs.Told.{Spoilt, Put}
-use Rattle.flawless.specs.Closed.{Ends, SpecEnds}
+use Rattle.told.specs.Told.{Put}
+use Rattle.flawless.specs.Closed.{is_plain, Ends, SpecEnds}
 
 -- A WORD that is not `_`
 pub no_blank : (b at end : ℕ) → (b ≡ 0x5F → end ≡ at + 1 → ⊥) → blank_word b at end ≡ false
@@ -62,68 +63,37 @@ module _ {t : List ℕ} {at : ℕ} (b : get_or t at 0 ≡ 0x7D) where
 pub no_gap : (t : List ℕ) (at c : ℕ) → get_or t at 0 ≡ c → 0x20 < c → c < 0x80 → at ≡ run_end is_space t at
 no_gap t at c b h l = sym (no_space t at (sym b) h l)
 
--- THE PARTS OF A SPEC whose counts are numbers or absent, and which ends so, are told
-pub told_parts : {t : List ℕ} {zero : Bool} {from : ℕ} {w p : PartTold} {k : TypeTold} → w.tag ≤ 1 → p.tag ≤ 1 → Ends t zero from w k → AllTold t zero from w p k
-told_parts a b e = record { flag = e.flag; wide = λ q. omega (arith, a, q); precise = λ q. omega (arith, b, q); typed = e.typed }
+-- A COUNT that is a number, or none, is no name
+pub plain_unnamed : {k : CountKind} → is_plain k ≡ true → k ≡ CountKind.Name → ⊥
+plain_unnamed y e = true≢false (sym y ∙ ap is_plain e)
 
--- and it ends at its closing brace
-pub spec_ended : {t : List ℕ} {s : SpecTold} → (s.ok ≡ true → Ends t s.zero s.from s.width s.typed) → SpecEnds t s
-spec_ended e = record { wide = λ y. (e y).wide; named = λ y. (e y).named; brace = λ y. (e y).brace }
+pub put_plain : {kind : CountKind} → is_plain kind ≡ true → {k n : ℕ} {ws l l₁ : List ℕ} → Put (kind ≡ CountKind.Name → ⊥) k n ws l l₁ → {told : Type 0} → Put told k n ws l l₁
+put_plain y p = record { wrote = λ _. p.wrote (plain_unnamed y); spoilt = p.spoilt }
 
--- WHERE IT LEAVES OFF nothing is told
-pub tells_none : {t : List ℕ} {at : ℕ} {x : PlaceholderTold} → x.ok ≡ false → Tells t at x
-tells_none n =
-    record {
-      read = λ y. absurd (true≢false (sym y ∙ n));
-      placed = λ y. absurd (true≢false (sym y ∙ n));
-      wide = λ y. absurd (true≢false (sym y ∙ n));
-      precise = λ y. absurd (true≢false (sym y ∙ n));
-      counted = λ y. absurd (true≢false (sym y ∙ n));
-      reached = λ y. absurd (true≢false (sym y ∙ n));
-      closed = λ y. absurd (true≢false (sym y ∙ n));
-      on = λ y. absurd (true≢false (sym y ∙ n));
-    }
+-- THE PARTS OF A SPEC which ends so: it ends at its closing brace
+pub spec_ended : {t : List ℕ} {s : SpecTold} → Ends t s.zero s.from s.width s.typed → SpecEnds t s
+spec_ended e = record { wide = e.wide; named = e.named; brace = e.brace }
 
-pub spec_none : (t : List ℕ) (at : ℕ) {s : SpecTold} → s.ok ≡ false → s.typed.end ≡ at → at ≤ length t → SpecKnown t at s × SpecEnds t s
-spec_none t at n e h = (
-  record {
-    read = λ y. absurd (true≢false (sym y ∙ n));
-    wide = λ y. absurd (true≢false (sym y ∙ n));
-    precise = λ y. absurd (true≢false (sym y ∙ n));
-    counted = λ y. absurd (true≢false (sym y ∙ n));
-    inside = rw e h;
-  },
-  record {
-    wide = λ y. absurd (true≢false (sym y ∙ n));
-    named = λ y. absurd (true≢false (sym y ∙ n));
-    brace = λ y. absurd (true≢false (sym y ∙ n));
-  },
-)
-
--- and what was tried is spoilt
-pub put_left : {o : Bool} → o ≡ false → {k n : ℕ} {ws l l₁ : List ℕ} → Spoilt k n l l₁ → Put (o ≡ true) k n ws l l₁
-put_left n s = record { wrote = λ y. absurd (true≢false (sym y ∙ n)); spoilt = s }
-
--- A PLACEHOLDER THAT ENDS AT ITS CLOSING BRACE, its place known
-module _ {t : List ℕ} {at to : ℕ} {p : PartTold} (e : PlaceEnds t at p to) (known : Known p) (whole : p.blank ≡ false) where
+-- A PLACEHOLDER THAT ENDS AT ITS CLOSING BRACE
+module _ {t : List ℕ} {at to : ℕ} {p : PlacePart} (e : PlaceEnds t at p to) (whole : p.blank ≡ false) where
   -- with a spec
-  module _ {s : SpecTold} (y : s.ok ≡ true) (z : SpecEnds t s) where
+  module _ {s : SpecTold} (z : SpecEnds t s) where
     abbrev pub with_spec : PlaceholderTold
-    with_spec = record { ok = true; place = p; to = to; colon = true; spec = s; close = s.typed.end; closed = true; hint = SignHint.Silent; on = s.typed.end + 1 }
+    with_spec = record { place = p; to = to; colon = true; spec = s; close = s.typed.end; closed = true; hint = SignHint.Silent; on = s.typed.end + 1 }
 
     pub spec_tells : get_or t to 0 ≡ 0x3A → SpecKnown t (to + 1) s → Tells t at with_spec
-    spec_tells b k = tells e (λ _. sound_spec b k y (no_gap t s.typed.end 0x7D (z.brace y) (omega arith) (omega arith)) (closed_ending (z.brace y) known))
+    spec_tells b k = tells e (sound_spec b k (no_gap t s.typed.end 0x7D z.brace (omega arith) (omega arith)) (closed_ending z.brace))
 
     pub spec_flawless : Flawless with_spec
-    spec_flawless = record { closed = refl; placed = whole; wide = z.wide y; typed = z.named y }
+    spec_flawless = record { closed = refl; placed = whole; wide = z.wide; typed = z.named }
 
   -- without one
   module _ {s : SpecTold} (z : NoSpec to s) (b : get_or t to 0 ≡ 0x7D) where
     abbrev pub without : PlaceholderTold
-    without = record { ok = true; place = p; to = to; colon = false; spec = s; close = to; closed = true; hint = SignHint.Silent; on = to + 1 }
+    without = record { place = p; to = to; colon = false; spec = s; close = to; closed = true; hint = SignHint.Silent; on = to + 1 }
 
     pub bare_tells : Tells t at without
-    bare_tells = tells e (λ _. sound_bare (λ q. omega (arith, b, q)) z e (closed_ending b known))
+    bare_tells = tells e (sound_bare (λ q. omega (arith, b, q)) z e (closed_ending b))
 
     pub bare_flawless : Flawless without
-    bare_flawless = record { closed = refl; placed = whole; wide = ap (λ (w : PartTold). w.blank) z.wide; typed = z.typed }
+    bare_flawless = record { closed = refl; placed = whole; wide = ap (λ (w : CountPart). w.blank) z.wide; typed = z.typed }

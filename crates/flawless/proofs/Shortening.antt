@@ -1,10 +1,11 @@
 -- A short spec, told by its bytes, is the spec that is read. Rests on Closing and on quick's Parts, Numbers and Specs.
-use Prim.Native.Nat.{ℕ, zero, suc, ◌+◌, ◌≤◌, ◌<◌}
+use Rattle.std.specs.Prelude.{Option, None, Some, IfSome}
+use Prim.Native.Nat.{ℕ, ◌+◌, ◌≤◌, ◌<◌}
 use mathlib.Core.Path.{◌≡◌, refl, sym, ◌∙◌, ap}
 use mathlib.Core.Bool.{Bool, true, false, true≢false}
 use mathlib.Core.List.{List}
 use native.Mathlib.Omega.{arith}
-use borrow.Author.Tests.{eqb-true, ne_eqb}
+use borrow.Author.Tests.{ne_eqb}
 use lib.ListN.{length, get_or}
 use Rattle.utf8.specs.Choice.{pick, within}
 use Rattle.utf8.specs.ChoiceLaws.{not_so, either_true, in_within}
@@ -20,18 +21,19 @@ use Rattle.scan.specs.declared.Consumed.{Consumed}
 use Rattle.placeholder.specs.Parts.{align_read, sign_read}
 use Rattle.placeholder.specs.declared.Align.{Align}
 use Rattle.placeholder.specs.declared.Sign.{Sign}
-use Rattle.quick.specs.declared.PartTold.{PartTold}
+use Rattle.quick.specs.declared.NumberPart.{NumberPart}
+use Rattle.quick.specs.declared.CountPart.{CountPart}
 use Rattle.quick.specs.declared.SpecTold.{SpecTold}
 use Rattle.quick.specs.declared.TypeTold.{TypeTold}
 use Rattle.quick.specs.declared.WordTold.{WordTold}
 use Rattle.quick.specs.Tellings.{back_of}
-use Rattle.quick.specs.PartsTold.{Room, Known, align_byte, sign_byte, blank_word, type_word, type_none, WordKnown, NumberTold, FillTold, WidthTold, PrecisionTold, TypeKnown, SpecKnown}
+use Rattle.quick.specs.PartsTold.{Room, fixed_count, count_none, align_byte, sign_byte, blank_word, type_word, type_none, WordKnown, NumberTold, FillTold, WidthTold, PrecisionTold, TypeKnown, SpecKnown}
 use Rattle.quick.proofs.Bytes.{lacks, digit_range, no_chars}
 use Rattle.quick.proofs.Numbers.{spelt_none, spelt_more, spelt_stop}
-use Rattle.quick.proofs.Parts.{none, unknown, count_fixed, width_count, width_none, precision_none, precision_width, fill_none, type_named}
+use Rattle.quick.proofs.Parts.{count_fixed, width_count, width_none, precision_none, precision_width, fill_none, type_named}
 use Rattle.quick.proofs.Specs.{Marks, spec_known}
 use Rattle.flawless.specs.Closed.{SpecEnds}
-use Rattle.flawless.specs.Short.{ShortWidth, ShortPrecision, short_spec, ShortTold}
+use Rattle.flawless.specs.Short.{ShortWidth, ShortPrecision, short_spec, ShortClosed, ShortTold}
 use Rattle.flawless.proofs.Closing.{no_blank, type_none_lem}
 
 -- A BYTE THAT IS NO MARK: no align, no sign, neither `#` nor `0`
@@ -115,15 +117,14 @@ module _ (t : List ℕ) (at : ℕ) (u : Unmarked (get_or t at 0)) where
       }
 
 -- A SPEC WITHOUT FILL OR MARKS is what its parts tell
-module _ {t : List ℕ} {at word given : ℕ} {w p : PartTold} {k : TypeTold} where
+module _ {t : List ℕ} {at word given : ℕ} {w p : CountPart} {k : TypeTold} where
   short_known : Unmarked (get_or t at 0) → FillTold t at at → WidthTold t at word w → given ≡ back_of t at word w → PrecisionTold t w.end 0 p → TypeKnown t p.end k →
-      Known w → Known p → k.ok ≡ true → SpecKnown t at (short_spec t at word w p k given)
-  short_known u f wi g pr ty a b o =
-      spec_known (unmarked t at u) f wi g pr (omega arith) ty (λ _. record { flag = λ z. absurd (true≢false (sym z)); wide = a; precise = b; typed = o })
+      SpecKnown t at (short_spec at word w p k given)
+  short_known u f wi g pr ty = spec_known (unmarked t at u) f wi g pr (omega arith) ty (λ z. absurd (true≢false (sym z)))
 
   -- and ends at its closing brace
-  short_ends : w.blank ≡ false → k.blank ≡ false → SpecEnds t (short_spec t at word w p k given)
-  short_ends a b = record { wide = λ _. a; named = λ _. b; brace = λ y. eqb-true (get_or t k.end 0) 0x7D y }
+  short_ends : w.blank ≡ false → k.blank ≡ false → get_or t k.end 0 ≡ 0x7D → SpecEnds t (short_spec at word w p k given)
+  short_ends a b c = record { wide = a; named = b; brace = c }
 
 -- an ASCII character with no align behind it is no fill
 no_fill_lem : (t : List ℕ) (at : ℕ) → 0 < get_or t at 0 → get_or t at 0 < 0x80 → align_byte (get_or t (at + 1) 0) ≡ false → FillTold t at at
@@ -146,11 +147,11 @@ unfolding is_digit
 digit_some b l h = in_within (omega (arith, l)) h
 
 -- A NUMBER behind whose first digit an align stands has no other
-module _ {t : List ℕ} {at : ℕ} (r : Room t at) (d : is_digit (get_or t at 0) ≡ true) {p : PartTold} (n : NumberTold t at p) (k : Known p) where
+module _ {t : List ℕ} {at : ℕ} (r : Room t at) (d : is_digit (get_or t at 0) ≡ true) {p : NumberPart} (n : NumberTold t at p) where
   one_digit : is_digit (get_or t (at + 1) 0) ≡ false → p.end ≡ at + 1
   one_digit z =
       let one = spelt_stop (spelt_more (spelt_none r) (omega arith) refl d) d z in
-      ap (λ (x : NumberRead). x.digits.end.0) (sym (n.read k) ∙ one.read (λ q. omega (arith, q)))
+      ap (λ (x : NumberRead). x.digits.end.0) (sym n.read ∙ one.read)
 
   -- so none stands there, where none stands at its end
   number_align : align_byte (get_or t p.end 0) ≡ false → align_byte (get_or t (at + 1) 0) ≡ false
@@ -160,43 +161,28 @@ module _ {t : List ℕ} {at : ℕ} (r : Room t at) (d : is_digit (get_or t at 0)
       go true y = digit_align (get_or t (at + 1) 0) y
       go false z = rw (one_digit z) at e
 
--- WHERE NOTHING IS TOLD
-pub short_left : {t : List ℕ} {at : ℕ} {s : SpecTold} → s.ok ≡ false → ShortTold t at s
-short_left n =
-    record {
-      known = λ y. absurd (true≢false (sym y ∙ n));
-      ends =
-          record {
-            wide = λ y. absurd (true≢false (sym y ∙ n));
-            named = λ y. absurd (true≢false (sym y ∙ n));
-            brace = λ y. absurd (true≢false (sym y ∙ n));
-          };
-      wide = λ y. absurd (true≢false (sym y ∙ n));
-      precise = λ y. absurd (true≢false (sym y ∙ n));
-    }
-
 -- between a place and itself nothing is given back, nor where a number stands
-back_none : (t : List ℕ) (at : ℕ) → back_of t at at (none at) ≡ 0
+back_none : (t : List ℕ) (at : ℕ) → back_of t at at (count_none at) ≡ 0
 unfolding back_of pick
 back_none t at = no_chars t at
 
-back_number : (t : List ℕ) (at word : ℕ) (w : PartTold) → w.tag ≡ 1 → back_of t at word w ≡ 0
+back_number : (t : List ℕ) (at word : ℕ) (n : NumberPart) → back_of t at word (fixed_count n) ≡ 0
 unfolding back_of pick
-back_number t at word w one = rw (ne_eqb w.tag 0 (λ q. omega (arith, one, q)))
+back_number t at word n = refl
 
 -- COUNTS ALONE, with a closing brace behind them
 module _ {t : List ℕ} {at : ℕ} (r : Room t at) where
   -- the precision, where it is a number
-  module _ {i : ℕ} {p : PartTold} (one : p.tag ≡ 1) (n : NumberTold t (i + 1) p) (dot : get_or t i 0 ≡ 0x2E) (d : is_digit (get_or t (i + 1) 0) ≡ true)
+  module _ {i : ℕ} {p : NumberPart} (n : NumberTold t (i + 1) p) (dot : get_or t i 0 ≡ 0x2E) (d : is_digit (get_or t (i + 1) 0) ≡ true)
       (brace : get_or t p.end 0 ≡ 0x7D) where
-    told_precision : PrecisionTold t i 0 p
+    told_precision : PrecisionTold t i 0 (fixed_count p)
     told_precision =
-        let g = count_fixed n (λ q. omega (arith, one, q)) (λ q. omega (arith, brace, q)) in
+        let g = count_fixed n (λ q. omega (arith, brace, q)) in
         let range = digit_range d in
-        precision_width dot (λ q. omega (arith, range, q)) (width_count {word = 0} g) g.whole (λ _ z. omega (arith, one, z))
+        precision_width dot (λ q. omega (arith, range, q)) (width_count {word = 0} g) g.whole g.some
 
   -- no width before the dot
-  module _ {p : PartTold} (one : p.tag ≡ 1) (n : NumberTold t (at + 1) p) (dot : get_or t at 0 ≡ 0x2E) (d : is_digit (get_or t (at + 1) 0) ≡ true)
+  module _ {p : NumberPart} (n : NumberTold t (at + 1) p) (dot : get_or t at 0 ≡ 0x2E) (d : is_digit (get_or t (at + 1) 0) ≡ true)
       (brace : get_or t p.end 0 ≡ 0x7D) where
     word_here : at ≡ (word_end t (place at)).0
     word_here = sym (word_none t at refl (omega (arith, dot)) (no_start (get_or t at 0) (omega (arith, dot))))
@@ -204,75 +190,49 @@ module _ {t : List ℕ} {at : ℕ} (r : Room t at) where
     dot_digit : is_digit (get_or t at 0) ≡ false
     dot_digit = not_so (is_digit (get_or t at 0)) (λ y. omega (arith, digit_range y, dot))
 
-    no_width : WidthTold t at at (none at)
+    no_width : WidthTold t at at (count_none at)
     no_width =
         rw (no_blank (get_or t at 0) at at (λ _ q. omega (arith, q))) at
         (width_none dot_digit word_here (λ l _. omega (arith, l)) r.within)
 
-    dotted : SpecKnown t at (short_spec t at at (none at) p (type_none p.end) 0)
+    dotted : SpecKnown t at (short_spec at at (count_none at) (fixed_count p) (type_none p.end) 0)
     dotted =
-        short_known (dot_unmarked dot) (no_fill_lem t at (omega (arith, dot)) (omega (arith, dot)) (digit_align (get_or t (at + 1) 0) d)) no_width (sym (back_none t at)) (told_precision one n dot d brace)
-        (type_none_lem brace n.inside) (λ q. omega (arith, q)) (λ q. omega (arith, one, q)) refl
+        short_known (dot_unmarked dot) (no_fill_lem t at (omega (arith, dot)) (omega (arith, dot)) (digit_align (get_or t (at + 1) 0) d)) no_width (sym (back_none t at)) (told_precision n dot d brace)
+        (type_none_lem brace n.inside)
 
   -- a width
-  module _ {w : PartTold} (one : w.tag ≡ 1) (n : NumberTold t at w) (l : 0x31 ≤ get_or t at 0) (h : get_or t at 0 ≤ 0x39) where
+  module _ {w : NumberPart} (n : NumberTold t at w) (l : 0x31 ≤ get_or t at 0) (h : get_or t at 0 ≤ 0x39) where
     digit : is_digit (get_or t at 0) ≡ true
     digit = digit_some (get_or t at 0) l h
 
-    width_known : Known w
-    width_known q = omega (arith, one, q)
-
-    told_width : (get_or t w.end 0 ≡ 0x24 → ⊥) → WidthTold t at at w
-    told_width x = width_count (count_fixed n width_known x)
+    told_width : (get_or t w.end 0 ≡ 0x24 → ⊥) → WidthTold t at at (fixed_count w)
+    told_width x = width_count (count_fixed n x)
 
     width_fill : align_byte (get_or t w.end 0) ≡ false → FillTold t at at
-    width_fill e = no_fill_lem t at (omega (arith, l)) (omega (arith, h)) (number_align r digit n width_known e)
+    width_fill e = no_fill_lem t at (omega (arith, l)) (omega (arith, h)) (number_align r digit n e)
 
     -- alone
-    widened : get_or t w.end 0 ≡ 0x7D → SpecKnown t at (short_spec t at at w (none w.end) (type_none w.end) 0)
+    widened : get_or t w.end 0 ≡ 0x7D → SpecKnown t at (short_spec at at (fixed_count w) (count_none w.end) (type_none w.end) 0)
     widened brace =
         short_known (digit_unmarked l h) (width_fill (not_align (λ q. omega (arith, brace, q)) (λ q. omega (arith, brace, q)) (λ q. omega (arith, brace, q))))
-        (told_width (λ q. omega (arith, brace, q))) (sym (back_number t at at w one)) (precision_none (λ q. omega (arith, brace, q)) n.inside) (type_none_lem brace n.inside)
-        width_known (λ q. omega (arith, q)) refl
+        (told_width (λ q. omega (arith, brace, q))) (sym (back_number t at at w)) (precision_none (λ q. omega (arith, brace, q)) n.inside) (type_none_lem brace n.inside)
 
     -- and a precision
-    widened_precise : {p : PartTold} → p.tag ≡ 1 → NumberTold t (w.end + 1) p → get_or t w.end 0 ≡ 0x2E → is_digit (get_or t (w.end + 1) 0) ≡ true →
-        get_or t p.end 0 ≡ 0x7D → SpecKnown t at (short_spec t at at w p (type_none p.end) 0)
-    widened_precise o m dot d brace =
-        short_known (digit_unmarked l h) (width_fill (unmarked_align (dot_unmarked dot))) (told_width (λ q. omega (arith, dot, q))) (sym (back_number t at at w one))
-        (told_precision o m dot d brace) (type_none_lem brace m.inside) width_known (λ q. omega (arith, o, q)) refl
+    widened_precise : {p : NumberPart} → NumberTold t (w.end + 1) p → get_or t w.end 0 ≡ 0x2E → is_digit (get_or t (w.end + 1) 0) ≡ true →
+        get_or t p.end 0 ≡ 0x7D → SpecKnown t at (short_spec at at (fixed_count w) (fixed_count p) (type_none p.end) 0)
+    widened_precise m dot d brace =
+        short_known (digit_unmarked l h) (width_fill (unmarked_align (dot_unmarked dot))) (told_width (λ q. omega (arith, dot, q))) (sym (back_number t at at w))
+        (told_precision m dot d brace) (type_none_lem brace m.inside)
 
   -- either
-  pub counts_told : {w p : PartTold} → ShortWidth t at w → w.tag ≤ 1 → ShortPrecision t w.end p → p.tag ≤ 1 → ShortTold t at (short_spec t at at w p (type_none p.end) 0)
-  counts_told {w} {p} a x b z =
-      record {
-        known = λ y. go w.tag refl x p.tag refl z (eqb-true (get_or t p.end 0) 0x7D y);
-        ends = short_ends (whole w.tag refl x) refl;
-        wide = λ _. x;
-        precise = λ _. z;
-      }
-    where
-      whole : (i : ℕ) → w.tag ≡ i → i ≤ 1 → w.blank ≡ false
-      whole zero e _ = ap (λ (q : PartTold). q.blank) (a.none e).0
-      whole (suc zero) e _ = (a.number e).0.whole
-      whole (suc (suc i)) e l = absurd (omega (arith, l))
-
-      go : (i : ℕ) → w.tag ≡ i → i ≤ 1 → (j : ℕ) → p.tag ≡ j → j ≤ 1 → get_or t p.end 0 ≡ 0x7D → SpecKnown t at (short_spec t at at w p (type_none p.end) 0)
-      go zero e _ zero f _ brace = absurd ((b.none f).1 (rw (a.none e).0 (a.none e).1))
-      go zero e _ (suc zero) f _ brace =
-          let n = rw (a.none e).0 at (b.number f) in
-          rw (a.none e).0 (dotted f n.0 n.1 n.2 brace)
-      go (suc zero) e _ zero f _ brace =
-          let m = a.number e in
-          let q = (b.none f).0 in
-          rw q (widened e m.0 m.1 m.2 (rw q at brace))
-      go (suc zero) e _ (suc zero) f _ brace =
-          let m = a.number e in
-          let n = b.number f in
-          widened_precise e m.0 m.1 m.2 f n.0 n.1 n.2 brace
-      go (suc (suc i)) e l j f _ brace = absurd (omega (arith, l))
-      go zero e _ (suc (suc j)) f l brace = absurd (omega (arith, l))
-      go (suc zero) e _ (suc (suc j)) f l brace = absurd (omega (arith, l))
+  pub counts_told : {w p : CountPart} → ShortWidth t at w → ShortPrecision t w.end p → get_or t p.end 0 ≡ 0x7D → ShortTold t at (short_spec at at w p (type_none p.end) 0)
+  counts_told (ShortWidth.none dot) (ShortPrecision.none other) brace = absurd (other dot)
+  counts_told (ShortWidth.none dot) (ShortPrecision.number n _ d) brace =
+      record { known = dotted n dot d brace; ends = short_ends refl refl brace; wide = refl; precise = refl }
+  counts_told (ShortWidth.number m l h) (ShortPrecision.none other) brace =
+      record { known = widened m l h brace; ends = short_ends refl refl brace; wide = refl; precise = refl }
+  counts_told (ShortWidth.number m l h) (ShortPrecision.number n dot d) brace =
+      record { known = widened_precise m l h n dot d brace; ends = short_ends refl refl brace; wide = refl; precise = refl }
 
 -- A WORD ALONE, with a closing brace behind it
 module _ {t : List ℕ} {at b : ℕ} (r : Room t at) (e : b ≡ get_or t at 0) (y : ascii_start b ≡ true) {w : WordTold} (k : WordKnown t at w) where
@@ -302,61 +262,32 @@ module _ {t : List ℕ} {at b : ℕ} (r : Room t at) (e : b ≡ get_or t at 0) (
   unfolding ascii_start within
   word_dot q = not_start 0x2E refl y (e ∙ q)
 
-  module _ (s : sign_byte b ≡ false) (u : b ≡ 0x5F → ⊥) {g : ℕ} (given : g ≡ back_of t at w.end (none at)) where
+  module _ (s : sign_byte b ≡ false) (u : b ≡ 0x5F → ⊥) {g : ℕ} (given : g ≡ back_of t at w.end (count_none at)) where
     blank : blank_word b at w.end ≡ false
     blank = no_blank b at w.end (λ q _. u q)
 
-    word_known : get_or t w.end 0 ≡ 0x7D → SpecKnown t at (short_spec t at w.end (none at) (none at) (type_word b at w.end) g)
+    word_known : get_or t w.end 0 ≡ 0x7D → SpecKnown t at (short_spec at w.end (count_none at) (count_none at) (type_word b at w.end) g)
     word_known brace =
         short_known (rw e at (start_unmarked y)) (word_fill brace)
         (rw (← e, blank) at (width_none word_digit k.ends (λ _ q. omega (arith, brace, q)) r.within))
         given (precision_none word_dot r.within) (rw (← e) at (type_named (rw e at s) k.ends r.within))
-        (λ q. omega (arith, q)) (λ q. omega (arith, q)) refl
 
-    pub word_told : ShortTold t at (short_spec t at w.end (none at) (none at) (type_word b at w.end) g)
-    word_told =
-        record {
-          known = λ z. word_known (eqb-true (get_or t w.end 0) 0x7D z);
-          ends = short_ends refl blank;
-          wide = λ _. omega arith;
-          precise = λ _. omega arith;
-        }
+    pub word_told : get_or t w.end 0 ≡ 0x7D → ShortTold t at (short_spec at w.end (count_none at) (count_none at) (type_word b at w.end) g)
+    word_told brace = record { known = word_known brace; ends = short_ends refl blank brace; wide = refl; precise = refl }
 
--- WHAT THE PARTS TELL: a width
-pub width_dot : {t : List ℕ} {at : ℕ} → get_or t at 0 ≡ 0x2E → ShortWidth t at (none at)
-width_dot dot = record { most = λ _. omega arith; none = λ _. (refl, dot); number = λ q. absurd (omega (arith, q)) }
+-- where they are told at all
+pub counts_closed : {t : List ℕ} {at : ℕ} {w p : CountPart} {k : TypeTold} (o : Option SpecTold) → Room t at → ShortWidth t at w → ShortPrecision t w.end p → k ≡ type_none p.end →
+    IfSome o (ShortClosed t at at w p k 0) → IfSome o (ShortTold t at)
+counts_closed None r a b e c = tt
+counts_closed (Some s) r a b e c = rw (c.parts, e) (counts_told r a b (rw e at c.brace))
 
-pub width_untold : {t : List ℕ} {at : ℕ} → ShortWidth t at (unknown at)
-width_untold = record { most = λ k. absurd (k refl); none = λ q. absurd (omega (arith, q)); number = λ q. absurd (omega (arith, q)) }
+pub word_closed : {t : List ℕ} {at b : ℕ} (o : Option SpecTold) (r : Room t at) (e : b ≡ get_or t at 0) (y : ascii_start b ≡ true) {w : WordTold} (k : WordKnown t at w) →
+    sign_byte b ≡ false → (b ≡ 0x5F → ⊥) → {g : ℕ} → g ≡ back_of t at w.end (count_none at) → {m n : CountPart} → m ≡ count_none at → n ≡ count_none at →
+    {x : TypeTold} → x ≡ type_word b at w.end → IfSome o (ShortClosed t at w.end m n x g) → IfSome o (ShortTold t at)
+word_closed None r e y k s u g p q z c = tt
+word_closed (Some _) r e y k s u g p q z c = rw (c.parts, p, q, z) (word_told r e y k s u g (rw z at c.brace))
 
-pub width_number : {t : List ℕ} {at : ℕ} {p : PartTold} → NumberTold t at p → 0x31 ≤ get_or t at 0 → get_or t at 0 ≤ 0x39 → ShortWidth t at p
-width_number n l h =
-    record {
-      most = λ k. omega (arith, n.one k);
-      none = λ q. absurd (omega (arith, q, n.one (λ z. omega (arith, q, z))));
-      number = λ _. (n, l, h);
-    }
-
--- which ends within the text
-pub width_inside : {t : List ℕ} {at : ℕ} {p : PartTold} → Room t at → ShortWidth t at p → p.tag ≤ 1 → p.end ≤ length t
-width_inside {t} {at} {p} r w h = go p.tag refl h
-  where
-    go : (i : ℕ) → p.tag ≡ i → i ≤ 1 → p.end ≤ length t
-    go zero e _ = rw (w.none e).0 r.within
-    go (suc zero) e _ = (w.number e).0.inside
-    go (suc (suc i)) e l = absurd (omega (arith, l))
-
--- and a precision
-pub precision_absent : {t : List ℕ} {at : ℕ} → (get_or t at 0 ≡ 0x2E → ⊥) → ShortPrecision t at (none at)
-precision_absent d = record { most = λ _. omega arith; none = λ _. (refl, d); number = λ q. absurd (omega (arith, q)) }
-
-pub precision_untold : {t : List ℕ} {at : ℕ} → ShortPrecision t at (unknown at)
-precision_untold = record { most = λ k. absurd (k refl); none = λ q. absurd (omega (arith, q)); number = λ q. absurd (omega (arith, q)) }
-
-pub precision_number : {t : List ℕ} {at : ℕ} {p : PartTold} → NumberTold t (at + 1) p → get_or t at 0 ≡ 0x2E → is_digit (get_or t (at + 1) 0) ≡ true → ShortPrecision t at p
-precision_number n dot d =
-    record {
-      most = λ k. omega (arith, n.one k);
-      none = λ q. absurd (omega (arith, q, n.one (λ z. omega (arith, q, z))));
-      number = λ _. (n, dot, d);
-    }
+-- A WIDTH ends within the text
+pub width_inside : {t : List ℕ} {at : ℕ} {p : CountPart} → Room t at → ShortWidth t at p → p.end ≤ length t
+width_inside r (ShortWidth.none dot) = r.within
+width_inside r (ShortWidth.number n l h) = n.inside

@@ -5,20 +5,20 @@
 
 mod short; // short.rt: specs that are counts alone, or a word alone
 
-ghost use Rattle.std.specs.Prelude.{◌≡◌, true, false, ◌+◌, ◌*◌, ◌≤◌, ◌<◌, length, get_or};
+ghost use Rattle.std.specs.Prelude.{◌≡◌, true, false, ◌+◌, ◌*◌, ◌≤◌, ◌<◌, length, get_or, IfSome};
 ghost use Rattle.frame.specs.Bounds.{Small};
 ghost use Rattle.frame.specs.Places.{place as place_at};
 ghost use Rattle.scan.specs.Words.{word_end};
-ghost use Rattle.quick.specs.Tellings.{spec_of, argument_of, Tells, Flawless};
-ghost use Rattle.quick.specs.PartsTold.{Room, Known, PlaceTold, TypeKnown, SpecKnown, PlaceEnds};
-ghost use Rattle.words.specs.Layout.{spec_words, argument_words};
-ghost use Rattle.told.specs.Told.{Put};
-ghost use Rattle.flawless.specs.Closed.{Ends, SpecEnds};
+ghost use Rattle.quick.specs.PartsTold.{Room, PlaceTold, TypeKnown, PlaceEnds};
+ghost use Rattle.told.specs.Told.{Spoilt};
+ghost use Rattle.flawless.specs.Closed.{is_plain, Ends, SpecPut, FlawlessPut};
 
-use crate::short::{left_spec, put_told_spec, short_spec};
+use crate::short::{put_told_spec, short_spec};
 use frame::{Frame, TextPlace};
 use passing::after::after_star;
-use quick::{PartTold, PlaceholderTold, SignHint, SpecTold, TypeTold};
+use quick::{
+    CountKind, CountPart, PlaceKind, PlacePart, PlaceholderTold, SignHint, SpecTold, TypeTold,
+};
 use told::parts::{put_bare, put_told_count, put_told_fill, put_told_head, put_told_type};
 use words::{align_word, bit, put4, sign_word};
 
@@ -26,37 +26,38 @@ use words::{align_word, bit, put4, sign_word};
 const UNDERSCORE: u8 = b'_';
 
 // The place of an argument. `r` with a `#` after it and the word `_` are not told; both are looked for only where a word is one byte long.
-fn place(text: &[u8], at: usize) -> PartTold
+fn place(text: &[u8], at: usize) -> Option<PlacePart>
     requires { Room text.now at }
-    ensures { PlaceTold text.now at result × (result.blank ≡ false) }
+    ensures { IfSome result (λ p. PlaceTold text.now at p × (p.blank ≡ false)) }
 {
     let b = utf8::byte(text, at);
     if quick::is_digit(b) {
-        return quick::number(text, at);
+        return Some(quick::number_place(quick::number(text, at)?));
     }
     let end = quick::word_end(text, at);
     if end == at {
-        return quick::nothing(at);
+        return Some(quick::no_place(at));
     }
     if end == at + 1 {
-        if quick::is_raw(text, b, at, end) {
-            return quick::untold(at);
-        }
-        if b == UNDERSCORE {
-            return quick::untold(at);
+        if quick::is_raw(text, b, at, end) || b == UNDERSCORE {
+            return None;
         }
     }
-    quick::plain(2, 0, end)
+    Some(PlacePart {
+        kind: PlaceKind::Word,
+        end,
+        blank: false,
+    })
 }
 
 // The type. Where the closing brace stands there is none, which is most often so. The word at `from` ends at `word`, and is not looked for again.
-fn type_at(text: &[u8], at: usize, from: usize, word: usize) -> TypeTold
+fn type_at(text: &[u8], at: usize, from: usize, word: usize) -> Option<TypeTold>
     requires { Room text.now at × (word ≡ (word_end text.now (place_at from)).0) }
-    ensures { TypeKnown text.now at result }
+    ensures { IfSome result (TypeKnown text.now at) }
 {
     let b = utf8::byte(text, at);
     if b == b'}' {
-        return quick::no_type(at);
+        return Some(quick::no_type(at));
     }
     if quick::is_type_sign(b) {
         return quick::sign_type(text, at);
@@ -66,26 +67,25 @@ fn type_at(text: &[u8], at: usize, from: usize, word: usize) -> TypeTold
     } else {
         quick::word_end(text, at)
     };
-    quick::word_type(b, at, end)
+    Some(quick::word_type(b, at, end))
+}
+
+// Whether a count is a number, or none.
+fn is_plain(kind: CountKind) -> bool
+    ensures { result ≡ is_plain kind }
+{
+    matches!(kind, CountKind::Nothing | CountKind::Number(_))
 }
 
 // Whether a spec ends at its closing brace, and nothing in it is wrong. A `0` with `$` is no flag.
-fn ends(text: &[u8], zero: bool, from: usize, width: PartTold, typed: TypeTold) -> bool
+fn ends(text: &[u8], zero: bool, from: usize, width: CountPart, typed: TypeTold) -> bool
     ensures { result ≡ true → Ends text.now zero from width typed }
 {
-    if !typed.ok {
+    if typed.blank || width.blank {
         return false;
     }
-    if typed.blank {
+    if zero && utf8::byte(text, from) == b'$' {
         return false;
-    }
-    if width.blank {
-        return false;
-    }
-    if zero {
-        if utf8::byte(text, from) == b'$' {
-            return false;
-        }
     }
     utf8::byte(text, typed.end) == b'}'
 }
@@ -98,9 +98,9 @@ fn write_any_spec(
     frame: Frame,
     at: usize,
     next: usize,
-) -> SpecTold
+) -> Option<SpecTold>
     requires { Small text.now frame × Room text.now at × (k + 32 ≤ length out.old) }
-    ensures { SpecKnown text.now at result × SpecEnds text.now result × Put (result.ok ≡ true) k 32 (spec_words (spec_of text.now frame at next result)) out.old out.new }
+    ensures { Spoilt k 32 out.old out.new × IfSome result (SpecPut text.now frame at next k out.old out.new) }
 {
     let fill = quick::fill_end(text, at);
     put_told_fill(&mut *out, k, text, frame, at, fill);
@@ -120,20 +120,22 @@ fn write_any_spec(
     );
     let from = flag.at.0;
     let word = quick::word_at(text, from);
-    let width = quick::width(text, from, word.end);
-    if 1 < width.tag {
-        return left_spec(at);
+    let width = quick::width(text, from, word.end)?;
+    if !is_plain(width.kind) {
+        return None;
     }
     put_told_count(&mut *out, k + 8, text, frame, from, width, next);
-    let precision = quick::precision(text, width.end);
-    if 1 < precision.tag {
-        return left_spec(at);
+    let precision = quick::precision(text, width.end)?;
+    if !is_plain(precision.kind) {
+        return None;
     }
     put_told_count(&mut *out, k + 16, text, frame, width.end, precision, next);
-    let typed = type_at(text, precision.end, from, word.end);
+    let typed = type_at(text, precision.end, from, word.end)?;
     put_told_type(out, k + 24, text, frame, typed);
-    SpecTold {
-        ok: ends(text, flag.ate, from, width, typed),
+    if !ends(text, flag.ate, from, width, typed) {
+        return None;
+    }
+    Some(SpecTold {
         fill,
         align,
         sign,
@@ -145,7 +147,7 @@ fn write_any_spec(
         precision,
         typed,
         given: quick::given_back(text, from, word, width),
-    }
+    })
 }
 
 // The spec from after its colon: a short one is told and then written, another is written as it is told.
@@ -156,33 +158,15 @@ fn write_spec(
     frame: Frame,
     at: usize,
     next: usize,
-) -> SpecTold
+) -> Option<SpecTold>
     requires { Small text.now frame × Room text.now at × (k + 32 ≤ length out.old) }
-    ensures { SpecKnown text.now at result × SpecEnds text.now result × Put (result.ok ≡ true) k 32 (spec_words (spec_of text.now frame at next result)) out.old out.new }
+    ensures { Spoilt k 32 out.old out.new × IfSome result (SpecPut text.now frame at next k out.old out.new) }
 {
-    let short = short_spec(text, at);
-    if short.ok {
+    if let Some(short) = short_spec(text, at) {
         put_told_spec(out, k, text, frame, at, next, short);
-        return short;
+        return Some(short);
     }
     write_any_spec(out, k, text, frame, at, next)
-}
-
-// Where a placeholder leaves off.
-fn left(at: usize) -> PlaceholderTold
-    ensures { result.ok ≡ false }
-{
-    PlaceholderTold {
-        ok: false,
-        place: quick::nothing(at),
-        to: at,
-        colon: false,
-        spec: left_spec(at),
-        close: at,
-        closed: false,
-        hint: SignHint::Silent,
-        on: at,
-    }
 }
 
 // A placeholder with a colon at `to`, where its place ends, told and written as the n-th piece: the spec first, and then the head, which tells where it ends.
@@ -192,21 +176,17 @@ fn write_with_spec(
     text: &[u8],
     frame: Frame,
     brace: usize,
-    place: PartTold,
+    place: PlacePart,
     to: usize,
     next: usize,
-) -> PlaceholderTold
-    requires { Small text.now frame × Room text.now to × (get_or text.now to 0 ≡ 0x3A) × PlaceEnds text.now (brace + 1) place to × Known place × (place.blank ≡ false) × (brace < 65535) × (next < 0xFFFFE) × (40 * n + 40 ≤ length out.old) }
-    ensures { Tells text.now (brace + 1) result × (result.ok ≡ true → Flawless result) × Put (result.ok ≡ true) (40 * n) 40 (argument_words (argument_of text.now frame brace next result)) out.old out.new }
+) -> Option<PlaceholderTold>
+    requires { Small text.now frame × Room text.now to × (get_or text.now to 0 ≡ 0x3A) × PlaceEnds text.now (brace + 1) place to × (place.blank ≡ false) × (brace < 65535) × (next < 0xFFFFE) × (40 * n + 40 ≤ length out.old) }
+    ensures { Spoilt (40 * n) 40 out.old out.new × IfSome result (FlawlessPut text.now frame brace next (40 * n) out.old out.new) }
 {
     let k = 40 * n;
-    let spec = write_spec(&mut *out, k + 8, text, frame, to + 1, next);
-    if !spec.ok {
-        return left(to);
-    }
+    let spec = write_spec(&mut *out, k + 8, text, frame, to + 1, next)?;
     let close = spec.typed.end;
     let told = PlaceholderTold {
-        ok: true,
         place,
         to,
         colon: true,
@@ -225,7 +205,7 @@ fn write_with_spec(
         told,
         after_star(spec.precision, next),
     );
-    told
+    Some(told)
 }
 
 // The placeholder whose opening brace stands at `brace`, told and written as the n-th piece.
@@ -236,24 +216,20 @@ pub fn write(
     frame: Frame,
     brace: usize,
     next: usize,
-) -> PlaceholderTold
+) -> Option<PlaceholderTold>
     requires { Small text.now frame × (brace < length text.now) × (next < 0xFFFFE) × (40 * n + 40 ≤ length out.old) }
-    ensures { Tells text.now (brace + 1) result × (result.ok ≡ true → Flawless result) × Put (result.ok ≡ true) (40 * n) 40 (argument_words (argument_of text.now frame brace next result)) out.old out.new }
+    ensures { Spoilt (40 * n) 40 out.old out.new × IfSome result (FlawlessPut text.now frame brace next (40 * n) out.old out.new) }
 {
-    let place = place(text, brace + 1);
-    if place.tag == 9 {
-        return left(brace);
-    }
+    let place = place(text, brace + 1)?;
     let to = place.end;
     let b = utf8::byte(text, to);
     if b == b':' {
         return write_with_spec(out, n, text, frame, brace, place, to, next);
     }
     if b != b'}' {
-        return left(brace);
+        return None;
     }
     let told = PlaceholderTold {
-        ok: true,
         place,
         to,
         colon: false,
@@ -264,5 +240,5 @@ pub fn write(
         on: to + 1,
     };
     put_bare(out, n, text, frame, brace, told, next);
-    told
+    Some(told)
 }

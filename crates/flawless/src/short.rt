@@ -1,79 +1,50 @@
 // Short specs: counts alone, as `.2` and `10.3`, or a word alone, as `e`; no fill, no mark before them and nothing after. Such a spec is told by its few bytes before any
 // number of it is written.
-ghost use Rattle.std.specs.Prelude.{◌≡◌, true, false, ◌+◌, ◌≤◌, length, get_or};
+ghost use Rattle.std.specs.Prelude.{◌≡◌, true, ◌+◌, ◌≤◌, length, get_or, IfSome};
 ghost use Rattle.letters.specs.Ascii.{ascii_start};
 ghost use Rattle.frame.specs.Bounds.{Small};
 ghost use Rattle.quick.specs.Tellings.{spec_of};
 ghost use Rattle.quick.specs.PartsTold.{Room};
 ghost use Rattle.words.specs.Laid.{laid};
 ghost use Rattle.words.specs.Layout.{spec_words};
-ghost use Rattle.flawless.specs.Short.{ShortWidth, ShortPrecision, short_spec, ShortTold};
+ghost use Rattle.flawless.specs.Closed.{is_plain};
+ghost use Rattle.flawless.specs.Short.{ShortWidth, ShortPrecision, ShortClosed, ShortTold};
 
 use frame::Frame;
-use placeholder::{Align, Hex, Sign};
-use quick::{PartTold, SpecTold, TypeTold};
+use placeholder::{Align, Sign};
+use quick::{CountPart, SpecTold, TypeTold};
 use told::parts::{put_told_count, put_told_fill, put_told_type};
 use words::{align_word, bit, put4, sign_word};
-
-// A spec that is not told: it leaves off at a place.
-pub fn left_spec(at: usize) -> SpecTold
-    ensures { (result.ok ≡ false) × (result.typed.end ≡ at) }
-{
-    SpecTold {
-        ok: false,
-        fill: at,
-        align: Align::Unknown,
-        sign: Sign::Absent,
-        alternate: false,
-        zero: false,
-        from: at,
-        word: at,
-        width: quick::nothing(at),
-        precision: quick::nothing(at),
-        typed: TypeTold {
-            ok: false,
-            hex: Hex::Absent,
-            word: false,
-            blank: false,
-            from: at,
-            end: at,
-        },
-        given: 0,
-    }
-}
 
 // The least digit that a width begins with here: `0` is a mark.
 const FIRST_OF_WIDTH: u8 = b'1';
 
 // The width of counts alone: none where they begin with the dot, else a number that does not begin with `0`, which would be a mark.
-fn short_width(text: &[u8], b: u8, at: usize) -> PartTold
+fn short_width(text: &[u8], b: u8, at: usize) -> Option<CountPart>
     requires { Room text.now at × (b ≡ get_or text.now at 0) }
-    ensures { ShortWidth text.now at result }
+    ensures { IfSome result (ShortWidth text.now at) }
 {
     if b == b'.' {
-        return quick::nothing(at);
+        return Some(quick::no_count(at));
     }
-    if b < FIRST_OF_WIDTH {
-        return quick::untold(at);
+    if b < FIRST_OF_WIDTH || b'9' < b {
+        return None;
     }
-    if b'9' < b {
-        return quick::untold(at);
-    }
-    quick::number(text, at)
+    Some(quick::fixed_count(quick::number(text, at)?))
 }
 
 // The precision of counts alone: none, or a dot and a number.
-fn short_precision(text: &[u8], at: usize) -> PartTold
+fn short_precision(text: &[u8], at: usize) -> Option<CountPart>
     requires { Room text.now at }
-    ensures { ShortPrecision text.now at result }
+    ensures { IfSome result (ShortPrecision text.now at) }
 {
     if utf8::byte(text, at) != b'.' {
-        return quick::nothing(at);
+        return Some(quick::no_count(at));
     }
-    if quick::is_digit(utf8::byte(text, at + 1)) {
-        return quick::number(text, at + 1);
+    if !quick::is_digit(utf8::byte(text, at + 1)) {
+        return None;
     }
-    quick::untold(at)
+    Some(quick::fixed_count(quick::number(text, at + 1)?))
 }
 
 // A spec of these parts. It is told where its closing brace stands at its end.
@@ -81,15 +52,17 @@ fn short_of(
     text: &[u8],
     at: usize,
     word: usize,
-    width: PartTold,
-    precision: PartTold,
+    width: CountPart,
+    precision: CountPart,
     typed: TypeTold,
     given: usize,
-) -> SpecTold
-    ensures { result ≡ short_spec text.now at word width precision typed given }
+) -> Option<SpecTold>
+    ensures { IfSome result (ShortClosed text.now at word width precision typed given) }
 {
-    SpecTold {
-        ok: utf8::byte(text, typed.end) == b'}',
+    if utf8::byte(text, typed.end) != b'}' {
+        return None;
+    }
+    Some(SpecTold {
         fill: at,
         align: Align::Unknown,
         sign: Sign::Absent,
@@ -101,22 +74,16 @@ fn short_of(
         precision,
         typed,
         given,
-    }
+    })
 }
 
 // Counts alone; the first byte is given.
-fn counts_alone(text: &[u8], b: u8, at: usize) -> SpecTold
+fn counts_alone(text: &[u8], b: u8, at: usize) -> Option<SpecTold>
     requires { Room text.now at × (b ≡ get_or text.now at 0) }
-    ensures { ShortTold text.now at result }
+    ensures { IfSome result (ShortTold text.now at) }
 {
-    let width = short_width(text, b, at);
-    if 1 < width.tag {
-        return left_spec(at);
-    }
-    let precision = short_precision(text, width.end);
-    if 1 < precision.tag {
-        return left_spec(at);
-    }
+    let width = short_width(text, b, at)?;
+    let precision = short_precision(text, width.end)?;
     short_of(
         text,
         at,
@@ -129,32 +96,29 @@ fn counts_alone(text: &[u8], b: u8, at: usize) -> SpecTold
 }
 
 // A word alone; the letter that it begins with is given. `x` and `X` may begin more, and `_` may be a fault.
-fn word_alone(text: &[u8], b: u8, at: usize) -> SpecTold
+fn word_alone(text: &[u8], b: u8, at: usize) -> Option<SpecTold>
     requires { Room text.now at × (b ≡ get_or text.now at 0) × (ascii_start b ≡ true) }
-    ensures { ShortTold text.now at result }
+    ensures { IfSome result (ShortTold text.now at) }
 {
-    if quick::is_type_sign(b) {
-        return left_spec(at);
-    }
-    if b == b'_' {
-        return left_spec(at);
+    if quick::is_type_sign(b) || b == b'_' {
+        return None;
     }
     let word = quick::word_at(text, at);
     short_of(
         text,
         at,
         word.end,
-        quick::nothing(at),
-        quick::nothing(at),
+        quick::no_count(at),
+        quick::no_count(at),
         quick::word_type(b, at, word.end),
-        quick::given_back(text, at, word, quick::nothing(at)),
+        quick::given_back(text, at, word, quick::no_count(at)),
     )
 }
 
 // The spec from after its colon, where it is short.
-pub fn short_spec(text: &[u8], at: usize) -> SpecTold
+pub fn short_spec(text: &[u8], at: usize) -> Option<SpecTold>
     requires { Room text.now at }
-    ensures { ShortTold text.now at result }
+    ensures { IfSome result (ShortTold text.now at) }
 {
     let b = utf8::byte(text, at);
     if letters::ascii_start(b) {
@@ -173,7 +137,7 @@ pub fn put_told_spec(
     next: usize,
     spec: SpecTold,
 )
-    requires { Small text.now frame × (k + 32 ≤ length out.old) × (spec.width.tag ≤ 1) × (spec.precision.tag ≤ 1) }
+    requires { Small text.now frame × (k + 32 ≤ length out.old) × (is_plain spec.width.kind ≡ true) × (is_plain spec.precision.kind ≡ true) }
     ensures { out.new ≡ laid out.old k (spec_words (spec_of text.now frame at next spec)) }
 {
     let align = spec.align;

@@ -1,10 +1,8 @@
 -- Laws of the frame for its callers: `same` is equality, what a source literal is, and a frame of a small text is small.
 -- Rests on Frames and Spans.
-use Rattle.std.specs.Prelude.{ℕ, ◌≤◌, ◌≡◌, refl, Bool, true, false, List, [], ◌∷◌, ◌↔◌, length, eqb}
+use Rattle.std.specs.Prelude.{ℕ, ◌≤◌, ◌≡◌, refl, Bool, true, false, List, [], ◌∷◌, ◌↔◌, length, eqb, Option, Some, None}
 use Rattle.std.proofs.Common.{subst, arith, eqb-true, eq-eqb}
 use Rattle.utf8.specs.ChoiceLaws.{both_left, both_right}
-use Rattle.frame.specs.declared.Style.{Style}
-use Rattle.frame.specs.declared.Style.TheVariants.{Plain, Raw}
 use Rattle.frame.specs.Frames.{hashes_of, body, raw_literal, same, is_literal, frame_of}
 use Rattle.frame.specs.Bounds.{Small}
 
@@ -31,19 +29,19 @@ same_exactly a b = (same_equal a b, λ e. subst (λ (l : List ℕ). same a l ≡
 
 -- a raw string's snippet is a source literal when it is the raw literal of the body, exactly
 pub literal_exactly : (t s : List ℕ) (h : ℕ) (newline : Bool) →
-    (is_literal t (Raw h) true s newline ≡ true) ↔ (s ≡ raw_literal h (body t newline))
+    (is_literal t (Some h) true s newline ≡ true) ↔ (s ≡ raw_literal h (body t newline))
 unfolding is_literal
 literal_exactly t s h newline = same_exactly s (raw_literal h (body t newline))
 
 -- without a snippet there is no source literal
-pub no_snippet : (t s : List ℕ) (style : Style) (newline : Bool) → is_literal t style false s newline ≡ false
+pub no_snippet : (t s : List ℕ) (style : Option ℕ) (newline : Bool) → is_literal t style false s newline ≡ false
 unfolding is_literal
-no_snippet t s Plain newline = refl
-no_snippet t s (Raw h) newline = refl
+no_snippet t s None newline = refl
+no_snippet t s (Some h) newline = refl
 
 -- a text within the limit has a small frame, whatever the rest: at most 255 hashes
-pub frame_small : (t s : List ℕ) (style : Style) (given newline : Bool) → length t ≤ 65535 → hashes_of style ≤ 255 →
+pub frame_small : (t s : List ℕ) (style : Option ℕ) (given newline : Bool) → length t ≤ 65535 → hashes_of style ≤ 255 →
     Small t (frame_of t style given s newline)
 unfolding frame_of
-frame_small t s Plain given newline short few = record { text = short; quote = omega arith }
-frame_small t s (Raw h) given newline short few = record { text = short; quote = omega arith }
+frame_small t s None given newline short few = record { text = short; quote = omega arith }
+frame_small t s (Some h) given newline short few = record { text = short; quote = omega arith }

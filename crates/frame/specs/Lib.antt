@@ -3,5 +3,6 @@ pub mod Places
 pub mod Frames
 pub mod Spans
 pub mod Bounds
+pub mod Modes
 pub mod FrameLaws
 pub mod Examples

@@ -6,6 +6,7 @@ ghost use Rattle.std.specs.Prelude.{◌≡◌, ◌≤◌, length};
 ghost use Rattle.frame.specs.Frames.{hashes_of, quote_offset, body, hash_marks, opening, closing, raw_literal, same, is_literal, frame_of};
 ghost use Rattle.frame.specs.Spans.{to_snippet, start_of, span_between};
 ghost use Rattle.frame.specs.Bounds.{Small};
+ghost use Rattle.frame.specs.Modes.{Decodes};
 
 // A byte place in the text.
 #[derive(Clone, Copy)]
@@ -37,11 +38,23 @@ pub enum Mode {
     Diagnostic,
 }
 
-// No style, or a raw string with so many hashes.
-#[derive(Clone, Copy)]
-pub enum Style {
-    Plain,
-    Raw(u8),
+// A number that is no mode's.
+#[derive(Clone, Copy, Debug, PartialEq, Eq)]
+pub struct UnknownMode(pub u8);
+
+impl TryFrom<u8> for Mode {
+    type Error = UnknownMode;
+
+    ghost try_from_gives = { Decodes };
+
+    fn try_from(number: u8) -> Result<Mode, UnknownMode> {
+        match number {
+            0 => Ok(Mode::Format),
+            1 => Ok(Mode::InlineAsm),
+            2 => Ok(Mode::Diagnostic),
+            _ => Err(UnknownMode(number)),
+        }
+    }
 }
 
 // What does not change over a reading.
@@ -52,23 +65,23 @@ pub struct Frame {
     pub literal: bool,
 }
 
-// How far the text's first byte stands from the snippet's start.
-pub fn quote_offset(style: Style) -> usize
+// How far the text's first byte stands from the snippet's start. A style is a raw string with so many hashes, or none.
+pub fn quote_offset(style: Option<u8>) -> usize
     ensures { result ≡ quote_offset style }
 {
     match style {
-        Style::Plain => 1,
-        Style::Raw(hashes) => hashes as usize + 2,
+        None => 1,
+        Some(hashes) => hashes as usize + 2,
     }
 }
 
 // How many hashes a style has.
-fn hashes_of(style: Style) -> usize
+fn hashes_of(style: Option<u8>) -> usize
     ensures { result ≡ hashes_of style }
 {
     match style {
-        Style::Plain => 0,
-        Style::Raw(hashes) => hashes as usize,
+        None => 0,
+        Some(hashes) => hashes as usize,
     }
 }
 
@@ -76,111 +89,67 @@ fn hashes_of(style: Style) -> usize
 fn body_of(text: &[u8], newline: bool) -> &[u8]
     ensures { result.now ≡ body text.now newline }
 {
-    if newline {
-        if 0 < text.len() {
-            let last = text.len() - 1;
-            return &text[0..last];
-        }
+    if !newline {
+        return text;
     }
-    text
+    match text.split_last() {
+        Some((_, body)) => body,
+        None => text,
+    }
 }
 
-// Every byte of a part is a hash.
-fn all_hashes(part: &[u8]) -> bool
-    ensures { result ≡ same part.now (hash_marks (length part.now)) }
+// A part is so many hashes.
+fn is_marks(part: &[u8], hashes: u8) -> bool
+    ensures { result ≡ same part.now (hash_marks hashes) }
 {
-    let mut i = 0;
-    while i < part.len() {
-        if part[i] != b'#' {
-            return false;
-        }
-        i += 1;
-    }
-    true
-}
-
-// Two parts hold the same bytes.
-fn equal(a: &[u8], b: &[u8]) -> bool
-    ensures { result ≡ same a.now b.now }
-{
-    if a.len() != b.len() {
-        return false;
-    }
-    let mut i = 0;
-    while i < a.len() {
-        if a[i] != b[i] {
-            return false;
-        }
-        i += 1;
-    }
-    true
+    part.len() == hashes as usize && part.iter().all(|byte| *byte == b'#')
 }
 
 // A part is r, the hashes and a quote.
 fn opens(part: &[u8], hashes: u8) -> bool
     ensures { result ≡ same part.now (opening hashes) }
 {
-    let last = hashes as usize + 1;
-    if part.len() != last + 1 {
-        return false;
+    match part {
+        [b'r', marks @ .., b'"'] => is_marks(marks, hashes),
+        _ => false,
     }
-    if part[0] != b'r' {
-        return false;
-    }
-    if !all_hashes(&part[1..last]) {
-        return false;
-    }
-    part[last] == b'"'
 }
 
 // A part is a quote and the hashes.
 fn closes(part: &[u8], hashes: u8) -> bool
     ensures { result ≡ same part.now (closing hashes) }
 {
-    let count = hashes as usize;
-    if part.len() != count + 1 {
-        return false;
+    match part {
+        [b'"', marks @ ..] => is_marks(marks, hashes),
+        _ => false,
     }
-    if part[0] != b'"' {
-        return false;
-    }
-    all_hashes(&part[1..])
 }
 
 // A snippet is the raw string with so many hashes around a body, exactly.
 fn is_raw_literal(snippet: &[u8], hashes: u8, inside: &[u8]) -> bool
     ensures { result ≡ same snippet.now (raw_literal hashes inside.now) }
 {
-    let start = hashes as usize + 2;
-    let end = start + inside.len();
-    if snippet.len() < end {
+    let Some((head, rest)) = snippet.split_at_checked(hashes as usize + 2) else {
         return false;
-    }
-    if !opens(&snippet[0..start], hashes) {
+    };
+    let Some(tail) = rest.strip_prefix(inside) else {
         return false;
-    }
-    if !equal(&snippet[start..end], inside) {
-        return false;
-    }
-    closes(&snippet[end..], hashes)
+    };
+    opens(head, hashes) && closes(tail, hashes)
 }
 
 // The snippet is a source literal.
-fn is_literal(text: &[u8], style: Style, given: bool, snippet: &[u8], newline: bool) -> bool
+fn is_literal(text: &[u8], style: Option<u8>, given: bool, snippet: &[u8], newline: bool) -> bool
     ensures { result ≡ is_literal text.now style given snippet.now newline }
 {
-    if given {
-        match style {
-            Style::Plain => false,
-            Style::Raw(hashes) => is_raw_literal(snippet, hashes, body_of(text, newline)),
-        }
-    } else {
-        false
+    match style {
+        Some(hashes) => given && is_raw_literal(snippet, hashes, body_of(text, newline)),
+        None => false,
     }
 }
 
 // The frame of a reading; `given` says whether there is a snippet.
-pub fn frame_of(text: &[u8], style: Style, given: bool, snippet: &[u8], newline: bool) -> Frame
+pub fn frame_of(text: &[u8], style: Option<u8>, given: bool, snippet: &[u8], newline: bool) -> Frame
     ensures { result ≡ frame_of text.now style given snippet.now newline }
 {
     let quote = quote_offset(style);

@@ -1,6 +1,6 @@
 -- Worked cases, judged by the definitions alone: elements that are a reading of a text and such as are none, the pieces of elements with every
 -- span, and covers. No parser and no law is used, so a definition that is changed is refuted here. Rests on Grammar, Pieces and Cover.
-use Rattle.std.specs.Prelude.{◌≡◌, refl, Bool, true, false, List, [], ◌∷◌, ℕ}
+use Rattle.std.specs.Prelude.{◌≡◌, refl, Bool, true, false, List, [], ◌∷◌, ℕ, Option, Some, None}
 use Rattle.std.proofs.Common.{inl, inr, ⊎_elim, arith}
 use Rattle.std.proofs.lemmas.Bool.{false≢true}
 use Rattle.utf8.specs.Choice.{pick, within}
@@ -17,17 +17,16 @@ use Rattle.scan.specs.declared.Numeral.{Numeral}
 use Rattle.placeholder.specs.declared.Align.{Align}
 use Rattle.placeholder.specs.declared.Fill.{Fill}
 use Rattle.placeholder.specs.declared.Hex.{Hex}
-use Rattle.placeholder.specs.declared.MaybeSpan.{MaybeSpan}
 use Rattle.frame.specs.declared.Mode.{Mode}
 use Rattle.placeholder.specs.declared.Place.{Place}
 use Rattle.placeholder.specs.declared.Sign.{Sign}
 use Rattle.placeholder.specs.declared.Spec.{Spec}
 use Rattle.reading.specs.declared.ErrorRecord.{ErrorRecord}
-use Rattle.reading.specs.declared.MaybeRange.{MaybeRange}
 use Rattle.reading.specs.declared.Piece.{Piece}
 use Rattle.grammar.specs.Grammar.{Plain, NextBrace, Position, next, number, word, Alignment, left, right, center, align_char, Lead, unaligned, filled, unsigned, Width, implied, fixed, by_argument, by_name, Precision, undotted, star, dot, lower, Typing, untyped, hex_debug, typed, format_spec, modifier, free_text, Tail, bare, colon, Element, run, opened, closed, placeholder, utf8, Reading}
 use Rattle.grammar.specs.Pieces.{wide, size, bytes, format_at, argument_at, pieces_of}
 use Rattle.grammar.specs.Cover.{Tiles, Lone, Covered}
+use Rattle.placeholder.specs.Filling.{filling}
 
 -- a placeholder of a place, whitespace after it, and what follows
 abbrev pub held : Position → List ℕ → Tail → Element
@@ -138,11 +137,11 @@ not_width r = false≢true (r.fits.0.tail.0.choice2 (0x35 ∷ 0x7D ∷ []) refl 
 abbrev span : ℕ → ℕ → Span
 span a b = span_of (snippet a) (snippet b)
 
-abbrev at : ℕ → ℕ → MaybeSpan
-at a b = MaybeSpan.Present (span a b)
+abbrev at : ℕ → ℕ → Option Span
+at a b = Some (span a b)
 
 -- a spec with neither sign nor `#`: fill, align, `0`; width; precision; type
-abbrev spec : Fill → Align → Bool → Count → MaybeSpan → Count → MaybeSpan → Hex → TextRange → MaybeSpan → Spec
+abbrev spec : Option Fill → Align → Bool → Count → Option Span → Count → Option Span → Hex → TextRange → Option Span → Spec
 spec fi al z w ws p ps h r rs =
     record {
       fill = fi;
@@ -160,8 +159,8 @@ spec fi al z w ws p ps h r rs =
     }
 
 -- a type's text and span alone
-abbrev bare_spec : TextRange → MaybeSpan → Spec
-bare_spec r rs = spec Fill.Absent Align.Unknown false Count.Implied MaybeSpan.Absent Count.Implied MaybeSpan.Absent Hex.Absent r rs
+abbrev bare_spec : TextRange → Option Span → Spec
+bare_spec r rs = spec None Align.Unknown false Count.Implied None Count.Implied None Hex.Absent r rs
 
 abbrev argument : Place → Span → Spec → TextRange → Piece
 argument p s x r = Piece.Placeholder (record { place = p; placespan = s; spec = x; range = r })
@@ -172,14 +171,14 @@ unfolding pieces_of size wide encode pick
 doubled = refl
 
 starred : pieces_of 1 0 0 (held next [] (format unaligned false implied star untyped) ∷ held next [] bare ∷ []) ≡
-    argument (Place.Next 1) (span 2 2) (spec Fill.Absent Align.Unknown false Count.Implied MaybeSpan.Absent (Count.ByStar 0) (at 3 5) Hex.Absent (bytes 4 4) MaybeSpan.Absent) (bytes 0 5)
-    ∷ argument (Place.Next 2) (span 7 7) (bare_spec (bytes 6 6) MaybeSpan.Absent) (bytes 5 7)
+    argument (Place.Next 1) (span 2 2) (spec None Align.Unknown false Count.Implied None (Count.ByStar 0) (at 3 5) Hex.Absent (bytes 4 4) None) (bytes 0 5)
+    ∷ argument (Place.Next 2) (span 7 7) (bare_spec (bytes 6 6) None) (bytes 5 7)
     ∷ []
 unfolding pieces_of argument_at format_at size wide encode pick
 starred = refl
 
 by_dollar : pieces_of 1 0 0 (held next [] (format unaligned false (by_argument 0x30 []) undotted untyped) ∷ []) ≡
-    argument (Place.Next 0) (span 2 2) (spec Fill.Absent Align.Unknown false (Count.ByArgument (Numeral.Within 0)) (at 3 5) Count.Implied MaybeSpan.Absent Hex.Absent (bytes 4 4) MaybeSpan.Absent) (bytes 0 5)
+    argument (Place.Next 0) (span 2 2) (spec None Align.Unknown false (Count.ByArgument (Numeral.Within 0)) (at 3 5) Count.Implied None Hex.Absent (bytes 4 4) None) (bytes 0 5)
     ∷ []
 unfolding pieces_of argument_at format_at size wide encode pick
 by_dollar = refl
@@ -188,7 +187,7 @@ by_dollar = refl
 all_parts : pieces_of 3 0 0 (run 0xE9 [] ∷ held (word 0x61 []) (0x20 ∷ []) (format (filled 0xE9 left) true (fixed 0x37 []) (dot (by_name 0x62 [])) (hex_debug lower)) ∷ []) ≡
     Piece.Literal (bytes 0 2)
     ∷ argument (Place.Named (bytes 3 4)) (span 6 8)
-    (spec (Fill.Present 0xE9 (span 9 11)) Align.Left true (Count.Fixed (Numeral.Within 7)) (at 13 14) (Count.ByName (bytes 12 13) (span 15 16)) (at 14 17) Hex.Lower (bytes 15 16) MaybeSpan.Absent)
+    (spec (filling 0xE9 (span 9 11)) Align.Left true (Count.Fixed (Numeral.Within 7)) (at 13 14) (Count.ByName (bytes 12 13) (span 15 16)) (at 14 17) Hex.Lower (bytes 15 16) None)
     (bytes 2 17)
     ∷ []
 unfolding pieces_of argument_at format_at size wide encode pick
@@ -230,12 +229,12 @@ dropped = (
 not_two : ¬ Tiles (0x61 ∷ 0x62 ∷ []) 0 (Piece.Literal (bytes 0 1) ∷ Piece.Literal (bytes 1 2) ∷ []) 2
 not_two h = ⊎_elim (λ e. omega arith) (no_mark 0x62 (λ z. omega arith) (λ z. omega arith)) h.0.ends
 
-not_held : ¬ Tiles (0x61 ∷ []) 0 (argument (Place.Next 0) (span 1 1) (bare_spec (bytes 0 0) MaybeSpan.Absent) (bytes 0 1) ∷ []) 1
+not_held : ¬ Tiles (0x61 ∷ []) 0 (argument (Place.Next 0) (span 1 1) (bare_spec (bytes 0 0) None) (bytes 0 1) ∷ []) 1
 not_held h = let e = h.0.brace in omega arith
 
 -- `}`: a stop at a lone `}` that is told, and not one that is not
 abbrev lone : ErrorRecord
-lone = record { kind = 1; span = span 1 2; second = MaybeSpan.Absent; quoted = MaybeRange.Absent; suggestion = MaybeSpan.Absent; piece = 0 }
+lone = record { kind = 1; span = span 1 2; second = None; quoted = None; suggestion = None; piece = 0 }
 
 is_lone : Lone (0x7D ∷ []) 0
 is_lone = (refl, λ e. omega arith)

@@ -1,6 +1,6 @@
 -- The pieces of elements: every number, byte range and span of each record, from the elements, the byte where they stand, the next argument's
 -- number and the quote offset. Rests on Grammar and on the records that the reader declares; no reader is named here.
-use Rattle.std.specs.Prelude.{false, List, [], ◌∷◌, ℕ, ◌+◌, length}
+use Rattle.std.specs.Prelude.{false, List, [], ◌∷◌, ℕ, ◌+◌, length, Option, Some, None}
 use Prim.Native.Char.{code}
 use Rattle.utf8.specs.Encode.{encode}
 use Rattle.frame.specs.Places.{place, range_of, snippet, span_of}
@@ -13,12 +13,12 @@ use Rattle.placeholder.specs.declared.Fill.{Fill}
 use Rattle.placeholder.specs.declared.Align.{Align}
 use Rattle.placeholder.specs.declared.Sign.{Sign}
 use Rattle.placeholder.specs.declared.Hex.{Hex}
-use Rattle.placeholder.specs.declared.MaybeSpan.{MaybeSpan}
 use Rattle.placeholder.specs.declared.Spec.{Spec}
 use Rattle.placeholder.specs.declared.Argument.{Argument}
 use Rattle.reading.specs.declared.Piece.{Piece}
 use Rattle.grammar.specs.Grammar.{value, Position, next, number, word, Alignment, left, right, center, Lead, unaligned, aligned, filled, Signed, unsigned, plus, minus, Width, implied, fixed, by_argument, by_name, Precision, undotted, star, dot, Letter, lower, upper, Typing, untyped, debug, hex_debug, hex, typed, FormatSpec, SpecText, format_spec, unmodified, modifier, free_text, Tail, bare, colon, Inside, Element, run, opened, closed, placeholder}
 use Rattle.grammar.specs.Grammar.{written_position, written_lead, written_sign, written_flag, written_width, written_precision, written}
+use Rattle.placeholder.specs.Filling.{filling}
 
 -- BYTES
 -- how many bytes spell a code
@@ -131,19 +131,19 @@ hex_of (hex x) = Hex.Absent
 hex_of (typed c r) = Hex.Absent
 
 -- a spec that has a type's text and span and nothing else
-abbrev pub type_only : TextRange → MaybeSpan → Spec
+abbrev pub type_only : TextRange → Option Span → Spec
 type_only r s =
     record {
-      fill = Fill.Absent;
+      fill = None;
       align = Align.Unknown;
       sign = Sign.Absent;
       alternate = false;
       zero = false;
       hex = Hex.Absent;
       width = Count.Implied;
-      widthspan = MaybeSpan.Absent;
+      widthspan = None;
       precision = Count.Implied;
-      precisionspan = MaybeSpan.Absent;
+      precisionspan = None;
       typetext = r;
       typespan = s;
     }
@@ -154,14 +154,14 @@ module _ (q : ℕ) where
   abbrev pub spanned : ℕ → ℕ → Span
   spanned a b = span_of (snippet (a + q)) (snippet (b + q))
 
-  abbrev pub present : ℕ → ℕ → MaybeSpan
-  present a b = MaybeSpan.Present (spanned a b)
+  abbrev pub present : ℕ → ℕ → Option Span
+  present a b = Some (spanned a b)
 
   -- a fill has its character's span
-  abbrev pub fill_of : ℕ → Lead → Fill
-  fill_of p unaligned = Fill.Absent
-  fill_of p (aligned a) = Fill.Absent
-  fill_of p (filled c a) = Fill.Present c (spanned p (p + wide c))
+  abbrev pub fill_of : ℕ → Lead → Option Fill
+  fill_of p unaligned = None
+  fill_of p (aligned a) = None
+  fill_of p (filled c a) = filling c (spanned p (p + wide c))
 
   -- a count by name has its word's span
   abbrev pub count_of : ℕ → Width → Count
@@ -171,8 +171,8 @@ module _ (q : ℕ) where
   count_of p (by_name c r) = Count.ByName (bytes_at p (c ∷ r)) (spanned p (p + size (c ∷ r)))
 
   -- a width that stands has the span of all that is written, its `$` included
-  abbrev pub width_span : ℕ → Width → MaybeSpan
-  width_span p implied = MaybeSpan.Absent
+  abbrev pub width_span : ℕ → Width → Option Span
+  width_span p implied = None
   width_span p (fixed d ds) = present p (p + size (written_width (fixed d ds) []))
   width_span p (by_argument d ds) = present p (p + size (written_width (by_argument d ds) []))
   width_span p (by_name c r) = present p (p + size (written_width (by_name c r) []))
@@ -184,17 +184,17 @@ module _ (q : ℕ) where
   precision_of p n (dot w) = count_of (p + 1) w
 
   -- its span starts at its dot
-  abbrev pub precision_span : ℕ → Precision → MaybeSpan
-  precision_span p undotted = MaybeSpan.Absent
+  abbrev pub precision_span : ℕ → Precision → Option Span
+  precision_span p undotted = None
   precision_span p star = present p (p + 2)
   precision_span p (dot w) = present p (p + 1 + size (written_width w []))
 
   -- a type that is a word has its span, and no other has one
-  abbrev pub type_span : ℕ → Typing → MaybeSpan
-  type_span p untyped = MaybeSpan.Absent
-  type_span p debug = MaybeSpan.Absent
-  type_span p (hex_debug x) = MaybeSpan.Absent
-  type_span p (hex x) = MaybeSpan.Absent
+  abbrev pub type_span : ℕ → Typing → Option Span
+  type_span p untyped = None
+  type_span p debug = None
+  type_span p (hex_debug x) = None
+  type_span p (hex x) = None
   type_span p (typed c r) = present p (p + size (c ∷ r))
 
   -- A FORMAT SPEC at byte p
@@ -218,13 +218,13 @@ module _ (q : ℕ) where
   -- THE SPEC of each mode, its colon at byte p; a Diagnostic one's span takes in the colon
   abbrev pub spec_at : ℕ → ℕ → SpecText → Spec
   spec_at p n (format_spec f) = format_at (p + 1) n f
-  spec_at p n unmodified = type_only (bytes (p + 1) (p + 1)) MaybeSpan.Absent
+  spec_at p n unmodified = type_only (bytes (p + 1) (p + 1)) None
   spec_at p n (modifier c r) = type_only (bytes_at (p + 1) (c ∷ r)) (present (p + 1) (p + 1 + size (c ∷ r)))
   spec_at p n (free_text r) = type_only (bytes_at (p + 1) r) (present p (p + 1 + size r))
 
   -- with no colon, the type's text is the empty range where reading stood
   abbrev pub after_place : ℕ → ℕ → Tail → Spec
-  after_place p n bare = type_only (bytes p p) MaybeSpan.Absent
+  after_place p n bare = type_only (bytes p p) None
   after_place p n (colon s w) = spec_at p n s
 
   -- A PLACEHOLDER at byte p: its range is brace to brace; choice 3, "whitespace .. belongs to the place", so the place's span takes it in

@@ -1,27 +1,27 @@
 -- Records with each span replaced by the same one, so that equal ones differ in spans at most. Rests on the records that the reader declares.
-use Rattle.std.specs.Prelude.{List, map, ℕ}
+use Rattle.std.specs.Prelude.{List, map, ℕ, Option, Some, None}
 use Rattle.frame.specs.Places.{snippet, span_of}
 use Rattle.frame.specs.declared.Span.{Span}
 use Rattle.scan.specs.declared.Count.{Count}
 use Rattle.placeholder.specs.declared.Argument.{Argument}
 use Rattle.placeholder.specs.declared.Fill.{Fill}
-use Rattle.placeholder.specs.declared.MaybeSpan.{MaybeSpan}
 use Rattle.placeholder.specs.declared.Spec.{Spec}
 use Rattle.reading.specs.declared.ErrorRecord.{ErrorRecord}
-use Rattle.reading.specs.declared.MaybeRange.{MaybeRange}
 use Rattle.reading.specs.declared.Piece.{Piece}
+use Rattle.frame.specs.declared.TextRange.{TextRange}
+use Rattle.placeholder.specs.Filling.{filling}
 
 -- the one span
 abbrev pub anywhere : Span
 anywhere = span_of (snippet 0) (snippet 0)
 
-abbrev pub maybe : MaybeSpan → MaybeSpan
-maybe MaybeSpan.Absent = MaybeSpan.Absent
-maybe (MaybeSpan.Present s) = MaybeSpan.Present anywhere
+abbrev pub maybe : Option Span → Option Span
+maybe None = None
+maybe (Some s) = Some anywhere
 
-abbrev pub fill : Fill → Fill
-fill Fill.Absent = Fill.Absent
-fill (Fill.Present c s) = Fill.Present c anywhere
+abbrev pub fill : Option Fill → Option Fill
+fill None = None
+fill (Some f) = filling f.code anywhere
 
 abbrev pub count : Count → Count
 count Count.Implied = Count.Implied
@@ -62,7 +62,7 @@ pieces xs = map piece xs
 abbrev pub kinds : List ErrorRecord → List ℕ
 kinds xs = map (λ x. x.kind) xs
 
-abbrev pub quotes : List ErrorRecord → List MaybeRange
+abbrev pub quotes : List ErrorRecord → List (Option TextRange)
 quotes xs = map (λ x. x.quoted) xs
 
 abbrev pub before : List ErrorRecord → List ℕ

@@ -1,6 +1,6 @@
 -- JOINED TEXTS: "two error-free texts of one mode and style, no snippets, joined within the length limit, read without error." The words'
 -- definitions are Joins; the work is in Device. First of two texts and of more by the lists that the definitions give, then of calls and what their lists hold.
-use Rattle.std.specs.Prelude.{◌≡◌, ◌≢◌, false, ℕ, ◌≤◌, ltb, length, take}
+use Rattle.std.specs.Prelude.{◌≡◌, ◌≢◌, false, ℕ, ◌≤◌, ltb, length, take, Option}
 use Rattle.std.proofs.Math.Path.{refl}
 use Rattle.std.proofs.Common.{ap, sym, ◌∙◌}
 use mathlib.Core.List.{List, [], ◌∷◌, ◌++◌}
@@ -9,7 +9,6 @@ use Rattle.utf8.specs.Table37.{WellFormed}
 use Rattle.frame.specs.Frames.{frame_of}
 use Rattle.frame.specs.declared.Frame.{Frame}
 use Rattle.frame.specs.declared.Mode.{Mode}
-use Rattle.frame.specs.declared.Style.{Style}
 use Rattle.reading.specs.Lists.{pieces, errors}
 use Rattle.reading.specs.declared.Piece.{Piece}
 use Rattle.reading.specs.declared.ErrorRecord.{ErrorRecord}
@@ -42,7 +41,7 @@ joined m t u f g h v w x y e i p =
     record { clean = joined_errors m t u f g h v w e i p; the_pieces = joined_pieces m t u f g h v w x y e i p }
 
 -- THREE TEXTS OR MORE, "a heading, a body and a footer": the same again. Texts with one style and no snippets.
-module _ (m : Mode) (y : Style) where
+module _ (m : Mode) (y : Option ℕ) where
   abbrev pub frame_in : List ℕ → Frame
   frame_in t = frame_of t y false [] false
 

@@ -1,6 +1,6 @@
 -- Worked joins, every field of every record: texts, their pieces and the joined text's, held to the join and to the reader's definitions, each by
 -- computing; and the premise, inside and outside. Rests on Joins and on the reader's definitions, on no law.
-use Rattle.std.specs.Prelude.{◌≡◌, refl, false, List, [], ◌∷◌, ◌++◌, map, ℕ, ◌+◌}
+use Rattle.std.specs.Prelude.{◌≡◌, refl, false, List, [], ◌∷◌, ◌++◌, map, ℕ, ◌+◌, Option, Some, None}
 use Rattle.std.proofs.Common.{inl, inr, ⊎_elim, true≢false, arith}
 use Rattle.utf8.specs.Choice.{pick, within}
 use Rattle.utf8.specs.Utf8.{low, high, sequence_of, char_of, sequence_at, decode, peek_at}
@@ -13,7 +13,6 @@ use Rattle.letters.specs.Questions.{is_space, is_start, is_continue}
 use Rattle.frame.specs.Frames.{frame_of, body, is_literal, end_of}
 use Rattle.frame.specs.Spans.{to_snippet, start_of, span_between}
 use Rattle.frame.specs.declared.Mode.{Mode}
-use Rattle.frame.specs.declared.Style.{Style}
 use Rattle.scan.specs.Characters.{is_at, past_at, consumed, spaces_past, is_plain, text_end}
 use Rattle.scan.specs.Ends as ends
 use Rattle.scan.specs.Words.{word_end, is_underscore, word_read, is_digit, decimal, numeral, digits_at, number_from, number_read}
@@ -22,6 +21,7 @@ use Rattle.scan.specs.declared.Count.{Count}
 use Rattle.scan.specs.declared.Numeral.{Numeral}
 use Rattle.placeholder.specs.Places.{is_r, raw_place, word_place, place_read}
 use Rattle.placeholder.specs.Parts.{is_align, fill_read, align_read, sign_read, plain_width, width_read, after_dot, precision_read}
+use Rattle.placeholder.specs.Filling.{filling}
 use Rattle.placeholder.specs.Types.{hex_type, is_hex_or_hash, debug_type, word_type, type_read}
 use Rattle.placeholder.specs.Format.{format_read}
 use Rattle.placeholder.specs.Specs.{diagnostic_type, spec_read}
@@ -43,7 +43,7 @@ use Rattle.joins.specs.Joins.{number_of_both, is_doubled, meet, join, text_all, 
 
 pub record Pair : Type 0 where
   pub mode : Mode
-  pub style : Style
+  pub style : Option ℕ
   pub first : List ℕ
   pub second : List ℕ
   pub ps : List Piece
@@ -51,10 +51,10 @@ pub record Pair : Type 0 where
   pub rs : List Piece
 
 -- a text's pieces and errors, with no snippet
-abbrev pieces_in : Mode → Style → List ℕ → List Piece
+abbrev pieces_in : Mode → Option ℕ → List ℕ → List Piece
 pieces_in m y t = pieces t (frame_of t y false [] false) m
 
-abbrev errors_in : Mode → Style → List ℕ → List ErrorRecord
+abbrev errors_in : Mode → Option ℕ → List ℕ → List ErrorRecord
 errors_in m y t = errors t (frame_of t y false [] false) m
 
 -- what the reader's definitions give, in a pair's place
@@ -76,13 +76,13 @@ wrongs p =
 
 -- a Format pair with no style
 abbrev plain : List ℕ → List ℕ → List Piece → List Piece → List Piece → Pair
-plain t u ps qs rs = record { mode = Mode.Format; style = Style.Plain; first = t; second = u; ps = ps; qs = qs; rs = rs }
+plain t u ps qs rs = record { mode = Mode.Format; style = None; first = t; second = u; ps = ps; qs = qs; rs = rs }
 
 -- `{:.*}` at byte a: its star's number and its place's
 abbrev starred : ℕ → ℕ → ℕ → Piece
 starred a i n =
     arg a (a + 5) (Place.Next n) (span (a + 2) (a + 2))
-    (spec Fill.Absent Align.Unknown false Count.Implied none (Count.ByStar i) (some (a + 3) (a + 5)) (range (a + 4) (a + 4)) none)
+    (spec None Align.Unknown false Count.Implied none (Count.ByStar i) (some (a + 3) (a + 5)) (range (a + 4) (a + 4)) none)
 
 -- `{}` at byte a, and its number
 abbrev implicit : ℕ → ℕ → Piece
@@ -92,7 +92,7 @@ implicit a n = arg a (a + 2) (Place.Next n) (span (a + 2) (a + 2)) (empty (a + 1
 abbrev full : ℕ → Piece
 full a =
     arg a (a + 8) (named (a + 1) (a + 2)) (span (a + 2) (a + 3))
-    (spec (Fill.Present 0x63 (span (a + 4) (a + 5))) Align.Right false (Count.ByName (range (a + 5) (a + 6)) (span (a + 6) (a + 7))) (some (a + 6) (a + 8)) Count.Implied none (range (a + 7) (a + 7)) none)
+    (spec (filling 0x63 (span (a + 4) (a + 5))) Align.Right false (Count.ByName (range (a + 5) (a + 6)) (span (a + 6) (a + 7))) (some (a + 6) (a + 8)) Count.Implied none (range (a + 7) (a + 7)) none)
 
 abbrev pub table : List Pair
 table =
@@ -116,7 +116,7 @@ table =
     -- InlineAsm, a raw string of one hash, and Diagnostic: `:}` and an align
     record {
       mode = Mode.InlineAsm;
-      style = Style.Raw 1;
+      style = Some 1;
       first = bytes_of "{:}";
       second = bytes_of "<{0:b}";
       ps = arg 0 3 (Place.Next 0) (span 4 4) (empty 2) ∷ [];
@@ -125,7 +125,7 @@ table =
     } ∷
     record {
       mode = Mode.Diagnostic;
-      style = Style.Plain;
+      style = None;
       first = bytes_of "{:}";
       second = bytes_of "^{:a}";
       ps = arg 0 3 (Place.Next 0) (span 2 2) (typed 2 2 (some 2 3)) ∷ [];
@@ -144,16 +144,16 @@ abbrev aligns : List (List ℕ)
 aligns = bytes_of "<" ∷ bytes_of ">" ∷ bytes_of "^" ∷ []
 
 abbrev kinds_in : List ℕ → List ℕ
-kinds_in t = map (λ x. x.kind) (errors_in Mode.Format Style.Plain t)
+kinds_in t = map (λ x. x.kind) (errors_in Mode.Format None t)
 
 -- By the reader's definitions:
 pub reads :
     -- the table's three lists, and no error
     (map read table ≡ table) × (map wrongs table ≡ map (λ p. []) table) ×
     -- a heading `{}`, a body `a{:.*}` and a footer `b{}`
-    (join_all (pieces_in Mode.Format Style.Plain) (bytes_of "{}") (implicit 0 0 ∷ []) (bytes_of "a{:.*}" ∷ bytes_of "b{}" ∷ []) ≡
+    (join_all (pieces_in Mode.Format None) (bytes_of "{}") (implicit 0 0 ∷ []) (bytes_of "a{:.*}" ∷ bytes_of "b{}" ∷ []) ≡
     implicit 0 0 ∷ lit 2 3 ∷ starred 3 1 2 ∷ lit 8 9 ∷ implicit 9 3 ∷ []) ×
-    (pieces_in Mode.Format Style.Plain (text_all (bytes_of "{}") (bytes_of "a{:.*}" ∷ bytes_of "b{}" ∷ [])) ≡
+    (pieces_in Mode.Format None (text_all (bytes_of "{}") (bytes_of "a{:.*}" ∷ bytes_of "b{}" ∷ [])) ≡
     implicit 0 0 ∷ lit 2 3 ∷ starred 3 1 2 ∷ lit 8 9 ∷ implicit 9 3 ∷ []) ×
     -- outside the premise each text is without error, and the joined one is not: its brace is a fill, and none closes
     (kinds_in (bytes_of "{:}") ≡ []) × (map kinds_in aligns ≡ [] ∷ [] ∷ [] ∷ []) ×

@@ -1,5 +1,5 @@
 -- What becomes of two texts' pieces in the joined text, and the premise. Rests on the records that the reader declares.
-use Rattle.std.specs.Prelude.{◌≡◌, ◌⊎◌, Bool, false, List, [], ◌∷◌, ◌++◌, map, ℕ, ◌+◌, eqb, length}
+use Rattle.std.specs.Prelude.{◌≡◌, ◌⊎◌, Bool, false, List, [], ◌∷◌, ◌++◌, map, ℕ, ◌+◌, eqb, length, Option, Some, None}
 use Rattle.utf8.specs.Choice.{pick, both, either}
 use Rattle.frame.specs.Places.{place, range_of, snippet, span_of}
 use Rattle.frame.specs.declared.Mode.{Mode}
@@ -8,11 +8,11 @@ use Rattle.frame.specs.declared.Span.{Span}
 use Rattle.scan.specs.declared.Count.{Count}
 use Rattle.placeholder.specs.declared.Place.{Place}
 use Rattle.placeholder.specs.declared.Fill.{Fill}
-use Rattle.placeholder.specs.declared.MaybeSpan.{MaybeSpan}
 use Rattle.placeholder.specs.declared.Spec.{Spec}
 use Rattle.placeholder.specs.declared.Argument.{Argument}
 use Rattle.reading.specs.declared.Counts.{Counts}
 use Rattle.reading.specs.declared.Piece.{Piece}
+use Rattle.placeholder.specs.Filling.{filling}
 
 -- MOVED by d bytes, "implicit places and stars .. raised by" k
 module _ (d k : ℕ) where
@@ -23,13 +23,13 @@ module _ (d k : ℕ) where
   abbrev pub moved_span : Span → Span
   moved_span s = span_of (snippet (s.start.0 + d)) (snippet (s.end.0 + d))
 
-  abbrev pub moved_maybe : MaybeSpan → MaybeSpan
-  moved_maybe MaybeSpan.Absent = MaybeSpan.Absent
-  moved_maybe (MaybeSpan.Present s) = MaybeSpan.Present (moved_span s)
+  abbrev pub moved_maybe : Option Span → Option Span
+  moved_maybe None = None
+  moved_maybe (Some s) = Some (moved_span s)
 
-  abbrev pub moved_fill : Fill → Fill
-  moved_fill Fill.Absent = Fill.Absent
-  moved_fill (Fill.Present c s) = Fill.Present c (moved_span s)
+  abbrev pub moved_fill : Option Fill → Option Fill
+  moved_fill None = None
+  moved_fill (Some f) = filling f.code (moved_span f.span)
 
   -- an implicit place
   abbrev pub moved_place : Place → Place

@@ -2,17 +2,16 @@
 -- back. Rests on MoveLaws, Moves, StateLaws and StepLaws, and on the laws of what reading passes.
 use Prim.Native.Nat.{ℕ, zero, suc, ◌+◌, ◌-◌, ◌*◌, ◌≤◌, ◌<◌}
 use Rattle.std.proofs.Math.Path.{◌≡◌, refl, ap}
-use Rattle.std.proofs.Common.{sym, ◌∙◌, arith, lt-ltb, le-ltb, ltb-true, ltb-false}
+use Rattle.std.proofs.Common.{sym, ◌∙◌, arith, lt-ltb, le-ltb, ltb-true, ltb-false, Option, Some, None}
 use Rattle.std.specs.Prelude.{Bool, List, [], ◌∷◌, ltb}
 use Rattle.std.proofs.Math.Bool.{true, false}
 use Rattle.std.proofs.Math.Nat.{add-zero}
 use Rattle.std.proofs.Math.ListN.{length}
 use Rattle.utf8.specs.Choice.{pick, either}
 use Rattle.utf8.specs.ChoiceLaws.{pick_elim}
-use Rattle.utf8.specs.Utf8.{peek_at}
+use Rattle.utf8.specs.Utf8.{peek_at, char}
 use Rattle.utf8.specs.Chars.{Ch, chars_of}
 use Rattle.utf8.specs.CharLaws.{peeked, before_more, before_past}
-use Rattle.utf8.specs.declared.Seen.TheVariants.{Char}
 use Rattle.frame.specs.Places.{range_of}
 use Rattle.frame.specs.declared.Frame.{Frame}
 use Rattle.frame.specs.declared.Mode.{Mode}
@@ -28,7 +27,6 @@ use Rattle.reading.specs.Moves.{brace_at, step_moves, moves_in, moves}
 use Rattle.reading.specs.Steps.{after_open, after_close, step_at, onward, follow, steps_from, start, reading}
 use Rattle.reading.specs.declared.State.{State}
 use Rattle.reading.specs.declared.Step.{Step}
-use Rattle.reading.specs.declared.Onward.{Onward}
 use Rattle.laws.specs.StateLaws.{standing, last_state}
 use Rattle.laws.specs.StepLaws.{Later, step_later, steps_none}
 use Rattle.laws.specs.WalkLaws.{steps_on, steps_over}
@@ -42,9 +40,9 @@ range_whole t f m brace at n = pick_elim (λ (r : PlaceholderRead). r.argument.r
 
 -- what is asked of a step: where reading goes on, whole characters were passed, and they and what was given back are its moves; where it is
 -- over, the text has ended, or a lone `}` stands there
-abbrev Moved : List ℕ → State → Step → Onward → Type 0
-Moved t s x Onward.Over = step_moves t x ≡ lone t s.at.0
-Moved t s x (Onward.To s') = Reached t s.at.0 s'.at.0 × (step_moves t x ≡ length (chars_of t s.at.0 s'.at.0) + given_by x)
+abbrev Moved : List ℕ → State → Step → Option State → Type 0
+Moved t s x None = step_moves t x ≡ lone t s.at.0
+Moved t s x (Some s') = Reached t s.at.0 s'.at.0 × (step_moves t x ≡ length (chars_of t s.at.0 s'.at.0) + given_by x)
 
 module _ (t : List ℕ) where
   -- a brace, or none
@@ -65,7 +63,7 @@ module _ (t : List ℕ) where
       go false = refl
 
   -- a character by itself is one
-  single : (i : ℕ) {c w : ℕ} → peek_at t i ≡ Char c w → length (chars_of t i (i + w)) ≡ 1
+  single : (i : ℕ) {c w : ℕ} → peek_at t i ≡ Some (char c w) → length (chars_of t i (i + w)) ≡ 1
   single i {c} {w} e =
       ap length (before_more t (i + w) i (omega (arith, (peeked t i e).some)) e) ∙ ap (λ (l : List Ch). suc (length l)) (before_past t (i + w) (i + w) (omega arith))
 
@@ -137,15 +135,15 @@ module _ (t : List ℕ) where
     walked zero s h = absurd (omega arith)
     walked (suc k) s h = go (onward s (step_at t f m s)) refl (step_moved s) (λ s' l. walked k s' (omega (arith, l)))
       where
-        go : (o : Onward) → onward s (step_at t f m s) ≡ o → Moved t s (step_at t f m s) o →
+        go : (o : Option State) → onward s (step_at t f m s) ≡ o → Moved t s (step_at t f m s) o →
             ((s' : State) → Later t s s' → Walked s' (last_state k t f m s').at.0 (steps_from k t f m s')) →
             Walked s (standing (last_state k t f m) s o).at.0 (step_at t f m s ∷ follow (steps_from k t f m) o)
-        go Onward.Over e p on =
+        go None e p on =
             record {
               reached = reached_none s.at.0;
               count = omega (arith, p, given_over t f m s (step_at t f m s) e, ap length (before_past t s.at.0 s.at.0 (omega arith)));
             }
-        go (Onward.To s') e p on =
+        go (Some s') e p on =
             let w = on s' (step_later t f m s e) in
             let whole = reached_then p.0 w.reached in
             record {

@@ -1,5 +1,5 @@
 -- What an answer of 0 says: the text and its frame are small, and each list has room. Rests on Deciding and the frame's laws.
-use Rattle.std.specs.Prelude.{ℕ, ◌≤◌, ◌<◌, ◌≡◌, refl, Bool, true, false, List, eqb, leb, ltb, length}
+use Rattle.std.specs.Prelude.{ℕ, ◌≤◌, ◌<◌, ◌≡◌, refl, Bool, true, false, List, eqb, leb, ltb, length, Option, Some, None}
 use Rattle.std.proofs.Common.{◌∙◌, true≢false, arith, leb-true, ltb-false}
 use Rattle.utf8.specs.Choice.{pick}
 use Rattle.utf8.specs.ChoiceLaws.{pick_elim}
@@ -7,21 +7,19 @@ use Rattle.utf8.specs.Utf8.{valid_prefix}
 use Rattle.frame.specs.Frames.{hashes_of}
 use Rattle.frame.specs.FrameLaws.{frame_small}
 use Rattle.frame.specs.Bounds.{Small}
-use Rattle.frame.specs.declared.Style.{Style}
 use Rattle.reading.specs.Lists.{pieces, errors, places, lines, counts_of}
 use Rattle.reading.specs.declared.Counts.{Counts}
 use Rattle.reading.specs.Answers.{is_styled, style_of, is_long, is_broken, lacks_newline, frame_for, mode_for, answer_of}
 use Rattle.laws.specs.Deciding.{refused_as, room_for, counted_answer, open_answer, answer_decided, answer_passed}
-use Rattle.reading.specs.declared.Hashes.{Hashes}
 use Rattle.reading.specs.declared.Request.{Request}
 use Rattle.reading.specs.declared.Rooms.{Rooms}
 use Rattle.reading.specs.declared.Answer.{Answer}
 
 -- a frame's style has at most 255 hashes
-style_few : (h : Hashes) → hashes_of (style_of h) ≤ 255
-style_few Hashes.Plain = omega arith
-style_few (Hashes.Raw h) =
-    pick_elim (λ (x : Style). hashes_of x ≤ 255) (leb h 255) (λ e. leb-true h 255 e) (λ _. omega arith)
+style_few : (h : Option ℕ) → hashes_of (style_of h) ≤ 255
+style_few None = omega arith
+style_few (Some h) =
+    pick_elim (λ (x : Option ℕ). hashes_of x ≤ 255) (leb h 255) (λ e. leb-true h 255 e) (λ _. omega arith)
 
 -- a text within the limit has a small frame
 pub small_frame : (t s : List ℕ) (q : Request) → length t ≤ 65535 → Small t (frame_for t s q)

@@ -1,17 +1,16 @@
 -- Laws of lines: lines, newlines and line starts over joined text.
 -- Rests on Lines and on `utf8`'s laws of characters.
 use Prim.Native.Nat.{ℕ, suc, ◌+◌, ◌<◌}
-use Rattle.std.specs.Prelude.{◌≡◌, Bool, true, false}
+use Rattle.std.specs.Prelude.{◌≡◌, Bool, true, false, Some}
 use Rattle.std.proofs.Math.Path.{refl}
 use Rattle.std.proofs.Common.{ap, arith}
 use mathlib.Core.List.{List, [], ◌∷◌, ◌++◌}
 use borrow.Author.Tests.{eq-eqb, ne_eqb}
 use Rattle.std.proofs.Math.ListN.{length}
 use Rattle.utf8.specs.Choice.{pick}
-use Rattle.utf8.specs.Utf8.{peek_at}
+use Rattle.utf8.specs.Utf8.{peek_at, char}
 use Rattle.utf8.specs.Chars.{Ch, chars_from, before}
 use Rattle.utf8.specs.CharLaws.{before_more}
-use Rattle.utf8.specs.declared.Seen.TheVariants.{Char}
 use Rattle.frame.specs.Places.{span_of}
 use Rattle.frame.specs.declared.SnippetPlace.{SnippetPlace}
 use Rattle.frame.specs.declared.Frame.{Frame}
@@ -28,7 +27,7 @@ unfolding newlines pick
 newlines_more c cs =
     by_test (λ b. pick b (suc (newlines cs)) (newlines cs) ≡ pick b 1 0 + newlines cs) (omega arith) (omega arith) (is_newline c)
 
-module _ (t : List ℕ) (e i : ℕ) {c w : ℕ} (l : i < e) (p : peek_at t i ≡ Char c w) where
+module _ (t : List ℕ) (e i : ℕ) {c w : ℕ} (l : i < e) (p : peek_at t i ≡ Some (char c w)) where
   -- a newline that is seen before byte e counts
   pub newlines_one : c ≡ 0x0A → newlines (before e (chars_from t i)) ≡ newlines (before e (chars_from t (i + w))) + 1
   unfolding newlines pick

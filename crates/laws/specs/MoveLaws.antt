@@ -2,7 +2,7 @@
 -- back. That the moves are these is proved in proofs/MovesTold. Rests on Moves, StateLaws and StepLaws, and on the laws of what reading passes.
 use Prim.Native.Nat.{ℕ, zero, suc, ◌+◌, ◌-◌, ◌*◌, ◌≤◌, ◌<◌}
 use Rattle.std.proofs.Math.Path.{◌≡◌, refl, ap}
-use Rattle.std.proofs.Common.{sym, ◌∙◌, arith, lt-ltb, le-ltb, ltb-true, ltb-false}
+use Rattle.std.proofs.Common.{sym, ◌∙◌, arith, lt-ltb, le-ltb, ltb-true, ltb-false, Some, None}
 use Rattle.std.specs.Prelude.{Bool, List, [], ◌∷◌, ltb}
 use Rattle.std.proofs.Math.Bool.{true, false}
 use Rattle.std.proofs.Math.Nat.{add-zero}
@@ -12,7 +12,6 @@ use Rattle.utf8.specs.ChoiceLaws.{pick_elim}
 use Rattle.utf8.specs.Utf8.{peek_at}
 use Rattle.utf8.specs.Chars.{Ch, chars_of}
 use Rattle.utf8.specs.CharLaws.{peeked, before_more, before_past}
-use Rattle.utf8.specs.declared.Seen.TheVariants.{Char}
 use Rattle.frame.specs.Places.{range_of}
 use Rattle.frame.specs.declared.Frame.{Frame}
 use Rattle.frame.specs.declared.Mode.{Mode}
@@ -28,7 +27,6 @@ use Rattle.reading.specs.Moves.{brace_at, step_moves, moves_in, moves}
 use Rattle.reading.specs.Steps.{after_open, after_close, step_at, onward, follow, steps_from, start, reading}
 use Rattle.reading.specs.declared.State.{State}
 use Rattle.reading.specs.declared.Step.{Step}
-use Rattle.reading.specs.declared.Onward.{Onward}
 use Rattle.laws.specs.StateLaws.{standing, last_state}
 use Rattle.laws.specs.StepLaws.{Later, step_later, steps_none}
 use Rattle.laws.specs.WalkLaws.{steps_on, steps_over}
@@ -72,7 +70,7 @@ module _ (t : List ℕ) where
         (λ _. omega arith)
 
     -- a step after which reading is over gives back nothing
-    pub given_over : (s : State) (x : Step) → onward s x ≡ Onward.Over → given_by x ≡ 0
+    pub given_over : (s : State) (x : Step) → onward s x ≡ None → given_by x ≡ 0
     given_over s Step.End e = refl
     given_over s (Step.Stop p) e = refl
     given_over s (Step.Literal r) e = refl
@@ -80,11 +78,11 @@ module _ (t : List ℕ) where
 
 -- FOR A RUN that adds up what is given back: the step at hand, and those that follow
 module _ (t : List ℕ) (f : Frame) (m : Mode) (s : State) {x : Step} (e : x ≡ step_at t f m s) where
-  pub given_on : (k : ℕ) {a : State} → 0 < k → onward s x ≡ Onward.To a → given_in (steps_from k t f m s) ≡ given_by x + given_in (steps_from (k - 1) t f m a)
+  pub given_on : (k : ℕ) {a : State} → 0 < k → onward s x ≡ Some a → given_in (steps_from k t f m s) ≡ given_by x + given_in (steps_from (k - 1) t f m a)
   unfolding given_in
   given_on k h g = ap given_in (steps_on t f m s e k h g)
 
-  pub given_last : (k : ℕ) → 0 < k → onward s x ≡ Onward.Over → given_in (steps_from k t f m s) ≡ given_by x
+  pub given_last : (k : ℕ) → 0 < k → onward s x ≡ None → given_in (steps_from k t f m s) ≡ given_by x
   unfolding given_in
   given_last k h g = ap given_in (steps_over t f m s e k h g) ∙ add-zero (given_by x)
 

@@ -1,6 +1,6 @@
 -- The literal text of a reading stands in order: each character ends before the next starts. So each line starts before the next, and
 -- the last line is none of those before it. Rests on Lists and StepLaws, and on the laws of where `scan` and `placeholder` stop.
-use Rattle.std.specs.Prelude.{ℕ, zero, suc, ◌+◌, ◌≤◌, ◌<◌, ◌≡◌, refl, Bool, true, false, eqb, get_or}
+use Rattle.std.specs.Prelude.{ℕ, zero, suc, ◌+◌, ◌≤◌, ◌<◌, ◌≡◌, refl, Bool, true, false, eqb, get_or, Option, Some, None}
 use Rattle.std.proofs.Common.{sym, ◌∙◌, ap, true≢false}
 use Rattle.std.proofs.Math.Path.{subst}
 use mathlib.Core.List.{List, [], ◌∷◌, ◌++◌, append-nil}
@@ -21,7 +21,6 @@ use Rattle.frame.specs.declared.Frame.{Frame}
 use Rattle.scan.specs.Characters.{consumed, spaces_past, is_plain, text_end}
 use Rattle.scan.specs.ScanLaws.{is_at_seen, consumed_on, consumed_some, consumed_is, spaces_on, text_on, word_on, number_on}
 use Rattle.scan.specs.Words.{word_read, number_read}
-use Rattle.scan.specs.declared.Number.{Number}
 use Rattle.placeholder.specs.Places.{raw_place, word_place, place_after, place_read}
 use Rattle.placeholder.specs.Specs.{diagnostic_type, spec_read}
 use Rattle.placeholder.specs.Arguments.{argument_read}
@@ -41,7 +40,7 @@ use Rattle.reading.specs.Lists.{gather, texts_of, literal_chars, to_the_end, sam
 use Rattle.laws.specs.ListLaws.{literal_more, literal_none, plain_lines}
 use Rattle.reading.specs.declared.State.{State}
 use Rattle.reading.specs.declared.Step.{Step}
-use Rattle.reading.specs.declared.Onward.{Onward}
+use Rattle.scan.specs.declared.Numeral.{Numeral}
 
 -- characters that stand in order from byte i on, the last of which ends by byte j
 pub data InOrder : ℕ → List Ch → ℕ → Type 0 where
@@ -124,9 +123,9 @@ place_on : (t : List ℕ) (at : TextPlace) → at.0 ≤ (place_read t at).at.0
 unfolding place_read word_place raw_place word_read
 place_on t at = go (number_read t at).number
   where
-    go : (n : Number) → at.0 ≤ (place_after t at (number_read t at) n).at.0
-    go (Number.Given n) = number_on t at
-    go Number.Nothing =
+    go : (n : Option Numeral) → at.0 ≤ (place_after t at (number_read t at) n).at.0
+    go (Some n) = number_on t at
+    go None =
         let P : PlaceRead → Type 0 = λ r. at.0 ≤ r.at.0 in
         let word = word_on t at in
         pick_elim P _ (λ _. le_refl at.0)
@@ -201,9 +200,9 @@ module _ (t : List ℕ) (f : Frame) where
         (λ _. rw append-nil (order_append own (order_wide (spaces_on t a.at) (le_refl _) (order_recover _ _ end _))))
 
 -- where reading goes on; where it is over, it stands still
-abbrev until : State → Onward → ℕ
-until s Onward.Over = s.at.0
-until s (Onward.To s') = s'.at.0
+abbrev until : State → Option State → ℕ
+until s None = s.at.0
+until s (Some s') = s'.at.0
 
 module _ (t : List ℕ) (f : Frame) (m : Mode) where
   -- the literal text of a step stands between where reading stood and where it goes on
@@ -233,11 +232,11 @@ module _ (t : List ℕ) (f : Frame) (m : Mode) where
       (λ _. InOrder.none (le_refl s.at.0))
 
   -- and so does that of a step of a run
-  order_going : (s : State) {x : Step} {o : Onward} → x ≡ step_at t f m s → onward s x ≡ o →
+  order_going : (s : State) {x : Step} {o : Option State} → x ≡ step_at t f m s → onward s x ≡ o →
       InOrder s.at.0 (gather (chars_in t) (texts_of x)) (until s o)
   unfolding Placed
   order_going s {x} e o =
-      subst (λ (o : Onward). InOrder s.at.0 (gather (chars_in t) (texts_of x)) (until s o)) o (subst (Placed s) (sym e) (order_step s))
+      subst (λ (o : Option State). InOrder s.at.0 (gather (chars_in t) (texts_of x)) (until s o)) o (subst (Placed s) (sym e) (order_step s))
 
   -- that of a run stands within the text
   pub order_run : {s : State} {xs : List Step} → s.at.0 ≤ length t → Run t f m s xs → InOrder s.at.0 (literal_chars t xs) (length t)

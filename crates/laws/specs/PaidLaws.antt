@@ -1,13 +1,12 @@
 -- What is found wrong is paid for in bytes, part by part up to a whole placeholder: each fault has a byte of its own that was passed.
 -- Rests on `scan`'s and `placeholder`'s definitions, and on the laws of where their parts stop.
-use Rattle.std.specs.Prelude.{ℕ, ◌+◌, ◌≤◌, ◌<◌, ◌≡◌, refl, Bool, true, List, length}
+use Rattle.std.specs.Prelude.{ℕ, ◌+◌, ◌≤◌, ◌<◌, ◌≡◌, refl, Bool, true, List, length, Option, Some, None}
 use Rattle.std.proofs.Math.Nat.{le_refl, le_trans}
 use native.Mathlib.Omega.{arith}
 use borrow.Author.Tests.{eqb-true, eqb-false, ltb-true}
 use Rattle.utf8.specs.Choice.{pick}
 use Rattle.utf8.specs.ChoiceLaws.{pick_elim, both_right}
 use Rattle.utf8.specs.Chars.{run_end}
-use Rattle.utf8.specs.declared.Seen.{Seen}
 use Rattle.frame.specs.Places.{place, range_of}
 use Rattle.frame.specs.declared.TextPlace.{TextPlace}
 use Rattle.frame.specs.declared.TextRange.{TextRange}
@@ -16,7 +15,6 @@ use Rattle.scan.specs.Characters.{is_at, past_at, consumed, spaces_past}
 use Rattle.scan.specs.Words.{word_end, is_underscore, word_read, is_digit, decimal, numeral, too_large, digits_at, number_from, number_read}
 use Rattle.scan.specs.ScanLaws.{seen_elim, run_on, consumed_on, consumed_some, past_on, past_some, spaces_on, text_on, word_on, count_on}
 use Rattle.scan.specs.declared.Flaw.{Flaw}
-use Rattle.scan.specs.declared.Number.{Number}
 use Rattle.scan.specs.declared.NumberRead.{NumberRead}
 use Rattle.placeholder.specs.Places.{raw_place, word_place, place_after, place_read}
 use Rattle.placeholder.specs.Parts.{fill_seen, fill_read, align_read, sign_read, plain_width, width_read, after_dot, precision_read}
@@ -43,6 +41,8 @@ use Rattle.closing.specs.declared.recover.Hint.{Hint}
 use Rattle.closing.specs.declared.recover.Recovery.{Recovery}
 use Rattle.closing.specs.declared.whole.Closing.{Closing}
 use Rattle.closing.specs.declared.whole.PlaceholderRead.{PlaceholderRead}
+use Rattle.scan.specs.declared.Numeral.{Numeral}
+use Rattle.utf8.specs.declared.Char.{Char}
 
 -- one for a flaw, none for a clean part
 abbrev pub held : Flaw → ℕ
@@ -149,10 +149,10 @@ module _ (t : List ℕ) where
     unfolding place_read
     place_paid = go (number_read t at).number
       where
-        go : (n : Number) →
+        go : (n : Option Numeral) →
             let r = place_after t at (number_read t at) n in at.0 + held r.flaw + held r.raw ≤ r.at.0
-        go (Number.Given n) = omega (arith, number_paid t at, held_clean)
-        go Number.Nothing = word_place_paid
+        go (Some n) = omega (arith, number_paid t at, held_clean)
+        go None = word_place_paid
 
     -- an align goes forward
     align_on : at.0 ≤ (align_read t at).at.0
@@ -174,7 +174,7 @@ module _ (t : List ℕ) where
     fill_on : at.0 ≤ (fill_read t f at).at.0
     unfolding fill_read
     fill_on =
-        seen_elim (λ (n : Seen). at.0 ≤ (fill_seen t f at n).at.0) t at.0 (λ _. le_refl at.0)
+        seen_elim (λ (n : Option Char). at.0 ≤ (fill_seen t f at n).at.0) t at.0 (λ _. le_refl at.0)
         (λ c w e. pick_elim (λ (r : FillRead). at.0 ≤ r.at.0) _ (λ _. omega arith) (λ _. le_refl at.0))
 
     -- and a width

@@ -1,16 +1,15 @@
 -- A fault's record field by field, as it is made: its kind, span, second span, what is quoted and the suggestion, and that these are the record.
 -- Rests on Records.
-use Rattle.std.specs.Prelude.{ℕ, ◌≡◌, refl, List}
+use Rattle.std.specs.Prelude.{ℕ, ◌≡◌, refl, List, Option, Some, None}
 use Rattle.frame.specs.Places.{span_of}
 use Rattle.frame.specs.Spans.{span_between}
 use Rattle.frame.specs.declared.Span.{Span}
 use Rattle.frame.specs.declared.Frame.{Frame}
 use Rattle.scan.specs.Characters.{past_at}
 use Rattle.scan.specs.Ends.{span_across}
-use Rattle.placeholder.specs.declared.MaybeSpan.{MaybeSpan}
 use Rattle.reading.specs.Records.{error_of, character_at, span_at, record_of}
 use Rattle.reading.specs.declared.Fault.{Fault}
-use Rattle.reading.specs.declared.MaybeRange.{MaybeRange}
+use Rattle.frame.specs.declared.TextRange.{TextRange}
 
 -- document 01's number of each kind; nothing wrong has none
 abbrev pub kind_of : Fault → ℕ
@@ -53,61 +52,61 @@ module _ (t : List ℕ) (f : Frame) where
   span_of_fault (Fault.Comma p brace) = span_across t f p p
 
   -- "the suggestion's span (4, 5, 9)": `r#`; the `?` and the sign after it; the `?`
-  abbrev pub suggestion_of : Fault → MaybeSpan
-  suggestion_of Fault.Clean = MaybeSpan.Absent
-  suggestion_of (Fault.Unmatched p) = MaybeSpan.Absent
-  suggestion_of (Fault.Expected p why) = MaybeSpan.Absent
-  suggestion_of (Fault.Unclosed why) = MaybeSpan.Absent
-  suggestion_of (Fault.RawName r) = MaybeSpan.Present (span_across t f r.start (past_at t r.start))
-  suggestion_of (Fault.AfterDebug p) = MaybeSpan.Present (span_across t f p (past_at t p))
-  suggestion_of (Fault.Underscore r) = MaybeSpan.Absent
-  suggestion_of (Fault.TooLarge r) = MaybeSpan.Absent
-  suggestion_of (Fault.DebugFirst p r) = MaybeSpan.Absent
+  abbrev pub suggestion_of : Fault → Option Span
+  suggestion_of Fault.Clean = None
+  suggestion_of (Fault.Unmatched p) = None
+  suggestion_of (Fault.Expected p why) = None
+  suggestion_of (Fault.Unclosed why) = None
+  suggestion_of (Fault.RawName r) = Some (span_across t f r.start (past_at t r.start))
+  suggestion_of (Fault.AfterDebug p) = Some (span_across t f p (past_at t p))
+  suggestion_of (Fault.Underscore r) = None
+  suggestion_of (Fault.TooLarge r) = None
+  suggestion_of (Fault.DebugFirst p r) = None
   suggestion_of (Fault.NoColon p) = span_at t f p
-  suggestion_of (Fault.Equals p brace) = MaybeSpan.Absent
-  suggestion_of (Fault.Misplaced p) = MaybeSpan.Absent
-  suggestion_of (Fault.PlusFirst p) = MaybeSpan.Absent
-  suggestion_of (Fault.Field a b) = MaybeSpan.Absent
-  suggestion_of (Fault.TupleIndex a b) = MaybeSpan.Absent
-  suggestion_of (Fault.Comma p brace) = MaybeSpan.Absent
+  suggestion_of (Fault.Equals p brace) = None
+  suggestion_of (Fault.Misplaced p) = None
+  suggestion_of (Fault.PlusFirst p) = None
+  suggestion_of (Fault.Field a b) = None
+  suggestion_of (Fault.TupleIndex a b) = None
+  suggestion_of (Fault.Comma p brace) = None
 
   -- "a second span (2 and 3: the fill if it is `}`, else the last opening brace; 10 and 15: that brace)"
-  abbrev pub second_of : Fault → MaybeSpan
-  second_of Fault.Clean = MaybeSpan.Absent
-  second_of (Fault.Unmatched p) = MaybeSpan.Absent
+  abbrev pub second_of : Fault → Option Span
+  second_of Fault.Clean = None
+  second_of (Fault.Unmatched p) = None
   second_of (Fault.Expected p why) = span_at t f why
   second_of (Fault.Unclosed why) = span_at t f why
-  second_of (Fault.RawName r) = MaybeSpan.Absent
-  second_of (Fault.AfterDebug p) = MaybeSpan.Absent
-  second_of (Fault.Underscore r) = MaybeSpan.Absent
-  second_of (Fault.TooLarge r) = MaybeSpan.Absent
-  second_of (Fault.DebugFirst p r) = MaybeSpan.Absent
-  second_of (Fault.NoColon p) = MaybeSpan.Absent
+  second_of (Fault.RawName r) = None
+  second_of (Fault.AfterDebug p) = None
+  second_of (Fault.Underscore r) = None
+  second_of (Fault.TooLarge r) = None
+  second_of (Fault.DebugFirst p r) = None
+  second_of (Fault.NoColon p) = None
   second_of (Fault.Equals p brace) = span_at t f brace
-  second_of (Fault.Misplaced p) = MaybeSpan.Absent
-  second_of (Fault.PlusFirst p) = MaybeSpan.Absent
-  second_of (Fault.Field a b) = MaybeSpan.Absent
-  second_of (Fault.TupleIndex a b) = MaybeSpan.Absent
+  second_of (Fault.Misplaced p) = None
+  second_of (Fault.PlusFirst p) = None
+  second_of (Fault.Field a b) = None
+  second_of (Fault.TupleIndex a b) = None
   second_of (Fault.Comma p brace) = span_at t f brace
 
 -- "what is quoted (2, 5, 11 the character; 7 the digits; 8 the word, as byte ranges)"
-abbrev pub quoted_of : List ℕ → Fault → MaybeRange
-quoted_of t Fault.Clean = MaybeRange.Absent
-quoted_of t (Fault.Unmatched p) = MaybeRange.Absent
+abbrev pub quoted_of : List ℕ → Fault → Option TextRange
+quoted_of t Fault.Clean = None
+quoted_of t (Fault.Unmatched p) = None
 quoted_of t (Fault.Expected p why) = character_at t p
-quoted_of t (Fault.Unclosed why) = MaybeRange.Absent
-quoted_of t (Fault.RawName r) = MaybeRange.Absent
+quoted_of t (Fault.Unclosed why) = None
+quoted_of t (Fault.RawName r) = None
 quoted_of t (Fault.AfterDebug p) = character_at t (past_at t p)
-quoted_of t (Fault.Underscore r) = MaybeRange.Absent
-quoted_of t (Fault.TooLarge r) = MaybeRange.Present r
-quoted_of t (Fault.DebugFirst p r) = MaybeRange.Present r
-quoted_of t (Fault.NoColon p) = MaybeRange.Absent
-quoted_of t (Fault.Equals p brace) = MaybeRange.Absent
+quoted_of t (Fault.Underscore r) = None
+quoted_of t (Fault.TooLarge r) = Some r
+quoted_of t (Fault.DebugFirst p r) = Some r
+quoted_of t (Fault.NoColon p) = None
+quoted_of t (Fault.Equals p brace) = None
 quoted_of t (Fault.Misplaced p) = character_at t p
-quoted_of t (Fault.PlusFirst p) = MaybeRange.Absent
-quoted_of t (Fault.Field a b) = MaybeRange.Absent
-quoted_of t (Fault.TupleIndex a b) = MaybeRange.Absent
-quoted_of t (Fault.Comma p brace) = MaybeRange.Absent
+quoted_of t (Fault.PlusFirst p) = None
+quoted_of t (Fault.Field a b) = None
+quoted_of t (Fault.TupleIndex a b) = None
+quoted_of t (Fault.Comma p brace) = None
 
 -- a fault's record is these five, and the number of pieces already listed
 pub record_parts : (t : List ℕ) (f : Frame) (n : ℕ) (x : Fault) →

@@ -1,6 +1,6 @@
 -- A reading never has more pieces, nor more errors, than its text has bytes: each has a byte of its own that a step passes.
 -- Rests on Lists, ListLaws and StepLaws, and on PaidLaws for a placeholder.
-use Rattle.std.specs.Prelude.{ℕ, ◌+◌, ◌≤◌, ◌≡◌, refl, true, false, List, [], ◌∷◌, ◌++◌, length}
+use Rattle.std.specs.Prelude.{ℕ, ◌+◌, ◌≤◌, ◌≡◌, refl, true, false, List, [], ◌∷◌, ◌++◌, length, Option, Some, None}
 use Rattle.std.proofs.Common.{ap, sym, ◌∙◌, subst, arith, length-append}
 use borrow.Author.Tests.{ltb-true}
 use Rattle.utf8.specs.Choice.{pick}
@@ -25,7 +25,6 @@ use Rattle.laws.specs.PaidLaws.{held, said, held_in, held_on, held_at, placehold
 use Rattle.reading.specs.declared.Fault.{Fault}
 use Rattle.reading.specs.declared.State.{State}
 use Rattle.reading.specs.declared.Step.{Step}
-use Rattle.reading.specs.declared.Onward.{Onward}
 
 -- nothing is wrong in no slot
 wrong_none : length (wrong []) ≡ 0
@@ -127,9 +126,9 @@ one_piece (Step.Literal r) = omega arith
 one_piece (Step.Placeholder p) = omega arith
 
 -- where reading goes on; where it is over, the end of the text
-abbrev goes_to : List ℕ → Onward → ℕ
-goes_to t Onward.Over = length t
-goes_to t (Onward.To s) = s.at.0
+abbrev goes_to : List ℕ → Option State → ℕ
+goes_to t None = length t
+goes_to t (Some s) = s.at.0
 
 module _ (t : List ℕ) (f : Frame) (m : Mode) where
   -- a step has no more of something than the bytes from where reading stood to where it goes on
@@ -179,10 +178,10 @@ module _ (t : List ℕ) (f : Frame) (m : Mode) where
 
   module _ {B : Type 0} (g : Step → List B) (pays : Pays (λ x. length (g x))) where
     -- what each step pays for is paid for in a run
-    run_paid : (s : State) {x : Step} {o : Onward} → s.at.0 ≤ length t → x ≡ step_at t f m s → onward s x ≡ o →
+    run_paid : (s : State) {x : Step} {o : Option State} → s.at.0 ≤ length t → x ≡ step_at t f m s → onward s x ≡ o →
         s.at.0 + length (g x) ≤ goes_to t o
     run_paid s {x} l e o =
-        subst (λ (o : Onward). s.at.0 + length (g x) ≤ goes_to t o) o (subst (Paid (λ x. length (g x)) s) (sym e) (pays s l))
+        subst (λ (o : Option State). s.at.0 + length (g x) ≤ goes_to t o) o (subst (Paid (λ x. length (g x)) s) (sym e) (pays s l))
 
     -- so a run has no more of it than there are bytes from where it starts
     few_run : {s : State} {xs : List Step} → s.at.0 ≤ length t → Run t f m s xs → s.at.0 + length (gather g xs) ≤ length t

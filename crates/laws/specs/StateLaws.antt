@@ -1,7 +1,7 @@
 -- WHAT A RUN'S STATE KEEPS: the state after any number of steps; a figure that each step keeps true is, there, the figure worked out over the
 -- steps so far; and so it is with the number of arguments. Rests on Steps, StepLaws and WantLaws.
 use Prim.Native.Nat.{ℕ, zero, suc, ◌+◌, ◌-◌, ◌≤◌, ◌<◌}
-use Rattle.std.specs.Prelude.{◌≡◌, List, [], ◌∷◌, length}
+use Rattle.std.specs.Prelude.{◌≡◌, List, [], ◌∷◌, length, Option, Some, None}
 use Rattle.std.proofs.Math.Path.{refl, sym, ap}
 use Rattle.std.proofs.Common.{◌∙◌}
 use native.Mathlib.Omega.{arith}
@@ -12,13 +12,12 @@ use Rattle.reading.specs.Steps.{step_at, onward, follow, steps_from, start, read
 use Rattle.reading.specs.Wants.{larger, argument_wants, wants}
 use Rattle.reading.specs.declared.State.{State}
 use Rattle.reading.specs.declared.Step.{Step}
-use Rattle.reading.specs.declared.Onward.{Onward}
 use Rattle.laws.specs.WantLaws.{larger_none, larger_first, larger_assoc, wants_append}
 
 -- where reading stands next; where it is over, where it stood
-abbrev pub standing : (State → State) → State → Onward → State
-standing more s Onward.Over = s
-standing more s (Onward.To s') = more s'
+abbrev pub standing : (State → State) → State → Option State → State
+standing more s None = s
+standing more s (Some s') = more s'
 
 -- THE STATE AFTER STEPS from a state, at most k of them
 unfoldable pub last_state : ℕ → List ℕ → Frame → Mode → State → State
@@ -27,13 +26,13 @@ last_state (suc k) t f m s = standing (last_state k t f m) s (onward s (step_at 
 
 module _ (t : List ℕ) (f : Frame) (m : Mode) (s : State) {x : Step} (e : x ≡ step_at t f m s) where
   -- where reading goes on, it is the state after the steps from there
-  pub last_on : (k : ℕ) {a : State} → 0 < k → onward s x ≡ Onward.To a → last_state k t f m s ≡ last_state (k - 1) t f m a
+  pub last_on : (k : ℕ) {a : State} → 0 < k → onward s x ≡ Some a → last_state k t f m s ≡ last_state (k - 1) t f m a
   unfolding last_state
   last_on zero h g = absurd (omega arith)
   last_on (suc k) h g = let q : suc k - 1 ≡ k = omega arith in rw (← e, g, q)
 
   -- where it is over, it is the state there
-  pub last_over : (k : ℕ) → onward s x ≡ Onward.Over → last_state k t f m s ≡ s
+  pub last_over : (k : ℕ) → onward s x ≡ None → last_state k t f m s ≡ s
   unfolding last_state
   last_over zero g = refl
   last_over (suc k) g = rw (← e, g)
@@ -51,9 +50,9 @@ module _ {A : Type 0} (kept : State → A) (add : A → Step → A) where
   over a (x ∷ xs) = over (add a x) xs
 
   -- a state keeps it true: after a step it is what the step adds to it, and the last step adds nothing
-  abbrev pub Keeps : State → Step → Onward → Type 0
-  Keeps s x Onward.Over = add (kept s) x ≡ kept s
-  Keeps s x (Onward.To s') = kept s' ≡ add (kept s) x
+  abbrev pub Keeps : State → Step → Option State → Type 0
+  Keeps s x None = add (kept s) x ≡ kept s
+  Keeps s x (Some s') = kept s' ≡ add (kept s) x
 
   -- ANY FIGURE THAT IS KEPT: after any number of steps it is the one worked out over them
   pub kept_last : ((s : State) (x : Step) → Keeps s x (onward s x)) → (k : ℕ) (t : List ℕ) (f : Frame) (m : Mode) (s : State) →
@@ -63,11 +62,11 @@ module _ {A : Type 0} (kept : State → A) (add : A → Step → A) where
   kept_last keeps (suc k) t f m s =
       go (onward s (step_at t f m s)) (keeps s (step_at t f m s)) (λ s'. kept_last keeps k t f m s')
     where
-      go : (o : Onward) → Keeps s (step_at t f m s) o →
+      go : (o : Option State) → Keeps s (step_at t f m s) o →
           ((s' : State) → kept (last_state k t f m s') ≡ over (kept s') (steps_from k t f m s')) →
           kept (standing (last_state k t f m) s o) ≡ over (add (kept s) (step_at t f m s)) (follow (steps_from k t f m) o)
-      go Onward.Over e rest = sym e
-      go (Onward.To s') e rest = rest s' ∙ ap (λ (a : A). over a (steps_from k t f m s')) e
+      go None e rest = sym e
+      go (Some s') e rest = rest s' ∙ ap (λ (a : A). over a (steps_from k t f m s')) e
 
 -- a step adds what its piece wants
 abbrev add_wants : ℕ → Step → ℕ

@@ -2,7 +2,7 @@
 -- whole: one more turn would add nothing, and the last step is the end or a lone `}`.
 -- Rests on Steps, and on the laws of where `scan` and `placeholder` stop.
 use Prim.Native.Nat.{ℕ, zero, suc, ◌+◌, ◌-◌, ◌≤◌, ◌<◌}
-use Rattle.std.specs.Prelude.{◌≡◌, true, false, List, [], ◌∷◌, length}
+use Rattle.std.specs.Prelude.{◌≡◌, true, false, List, [], ◌∷◌, length, Option, Some, None}
 use Rattle.std.proofs.Math.Path.{refl}
 use Rattle.std.proofs.Common.{subst}
 use native.Mathlib.Omega.{arith}
@@ -10,7 +10,6 @@ use borrow.Author.Tests.{ltb-true}
 use Rattle.utf8.specs.Choice.{pick}
 use Rattle.utf8.specs.ChoiceLaws.{pick_elim}
 use Rattle.utf8.specs.CharLaws.{end_past}
-use Rattle.utf8.specs.declared.Seen.{Seen}
 use Rattle.frame.specs.declared.TextPlace.{TextPlace}
 use Rattle.frame.specs.declared.Frame.{Frame}
 use Rattle.scan.specs.Characters.{sees, is_at, consumed, is_plain, text_end}
@@ -21,18 +20,18 @@ use Rattle.reading.specs.Steps.{after_open, after_close, step_at, onward, follow
 use Rattle.reading.specs.Lists.{is_end}
 use Rattle.reading.specs.declared.State.{State}
 use Rattle.reading.specs.declared.Step.{Step}
-use Rattle.reading.specs.declared.Onward.{Onward}
+use Rattle.utf8.specs.declared.Char.{Char}
 
 module _ (t : List ℕ) (f : Frame) (m : Mode) where
   -- where reading goes on, the steps are the one there and those that follow
-  pub steps_more : (k : ℕ) (s : State) {s' : State} → 0 < k → onward s (step_at t f m s) ≡ Onward.To s' →
+  pub steps_more : (k : ℕ) (s : State) {s' : State} → 0 < k → onward s (step_at t f m s) ≡ Some s' →
       steps_from k t f m s ≡ step_at t f m s ∷ steps_from (k - 1) t f m s'
   unfolding steps_from
   steps_more zero s h e = absurd (omega arith)
   steps_more (suc k) s h e = let q : suc k - 1 ≡ k = omega arith in rw (e, q)
 
   -- where it is over, the step there is the last
-  pub steps_over : (k : ℕ) (s : State) → 0 < k → onward s (step_at t f m s) ≡ Onward.Over →
+  pub steps_over : (k : ℕ) (s : State) → 0 < k → onward s (step_at t f m s) ≡ None →
       steps_from k t f m s ≡ step_at t f m s ∷ []
   unfolding steps_from
   steps_over zero s h e = absurd (omega arith)
@@ -52,16 +51,16 @@ pub record Later (t : List ℕ) (s s' : State) : Type 0 where
   pub next : s'.next ≤ s.next + 4
 
 -- what holds where reading goes on; where it is over, nothing is asked
-abbrev Goes : List ℕ → State → Onward → Type 0
-Goes t s Onward.Over = Unit {0}
-Goes t s (Onward.To s') = Later t s s'
+abbrev Goes : List ℕ → State → Option State → Type 0
+Goes t s None = Unit {0}
+Goes t s (Some s') = Later t s s'
 
 -- a character that is no brace is literal text, and a run of it passes a byte
 plain_on : (t : List ℕ) (at : TextPlace) → at.0 < length t → (consumed t at 0x7B).ate ≡ false → (consumed t at 0x7D).ate ≡ false →
     at.0 < (text_end t at).0
 unfolding consumed is_at is_plain pick
 plain_on t at h =
-    seen_elim (λ (n : Seen). sees 0x7B n ≡ false → sees 0x7D n ≡ false → at.0 < (text_end t at).0) t at.0
+    seen_elim (λ (n : Option Char). sees 0x7B n ≡ false → sees 0x7D n ≡ false → at.0 < (text_end t at).0) t at.0
     (λ e _ _. omega (arith, end_past t at.0 e))
     (λ c w e o d. text_some t at e (rw (o, d)))
 
@@ -114,7 +113,7 @@ module _ (t : List ℕ) (f : Frame) (m : Mode) (s : State) where
       (λ d. omega (arith, plain_on t s.at h o d, text_in t s.at (omega arith)))))
       (λ _. tt)
 
-  module _ {s' : State} (e : onward s (step_at t f m s) ≡ Onward.To s') where
+  module _ {s' : State} (e : onward s (step_at t f m s) ≡ Some s') where
     -- where reading goes on
     pub step_later : Later t s s'
     step_later = subst (Goes t s) e step_goes
@@ -129,8 +128,8 @@ module _ (t : List ℕ) (f : Frame) (m : Mode) (s : State) where
 
 -- the steps from a state, with no count of turns: each is the step where reading stands, and the last is the one after which it is over
 pub data Run (t : List ℕ) (f : Frame) (m : Mode) : State → List Step → Type 0 where
-  last : {s : State} {x : Step} → x ≡ step_at t f m s → onward s x ≡ Onward.Over → Run t f m s (x ∷ [])
-  more : {s s' : State} {x : Step} {xs : List Step} → x ≡ step_at t f m s → onward s x ≡ Onward.To s' →
+  last : {s : State} {x : Step} → x ≡ step_at t f m s → onward s x ≡ None → Run t f m s (x ∷ [])
+  more : {s s' : State} {x : Step} {xs : List Step} → x ≡ step_at t f m s → onward s x ≡ Some s' →
       Run t f m s' xs → Run t f m s (x ∷ xs)
 
 module _ (t : List ℕ) (f : Frame) (m : Mode) where
@@ -140,10 +139,10 @@ module _ (t : List ℕ) (f : Frame) (m : Mode) where
   steps_run zero s h = absurd (omega arith)
   steps_run (suc k) s h = go (onward s (step_at t f m s)) refl (λ s' l. steps_run k s' (omega (arith, l)))
     where
-      go : (o : Onward) → onward s (step_at t f m s) ≡ o → ((s' : State) → Later t s s' → Run t f m s' (steps_from k t f m s')) →
+      go : (o : Option State) → onward s (step_at t f m s) ≡ o → ((s' : State) → Later t s s' → Run t f m s' (steps_from k t f m s')) →
           Run t f m s (step_at t f m s ∷ follow (steps_from k t f m) o)
-      go Onward.Over e on = Run.last refl e
-      go (Onward.To s') e on = Run.more refl e (on s' (step_later t f m s e))
+      go None e on = Run.last refl e
+      go (Some s') e on = Run.more refl e (on s' (step_later t f m s e))
 
   -- and so is the reading of a text
   pub reading_run : Run t f m start (reading t f m)
@@ -151,7 +150,7 @@ module _ (t : List ℕ) (f : Frame) (m : Mode) where
   reading_run = steps_run (length t + 1) start (omega arith)
 
 -- a step after which reading goes on is not the end
-pub not_end : (s : State) (x : Step) {s' : State} → onward s x ≡ Onward.To s' → is_end x ≡ false
+pub not_end : (s : State) (x : Step) {s' : State} → onward s x ≡ Some s' → is_end x ≡ false
 not_end s Step.End e = cc
 not_end s (Step.Stop p) e = refl
 not_end s (Step.Literal r) e = refl

@@ -1,6 +1,6 @@
 -- The steps from a state, where the step there is at hand: it, and those that follow where reading goes on. Rests on StepLaws.
 use Prim.Native.Nat.{ℕ, zero, suc, ◌+◌, ◌-◌, ◌*◌, ◌≤◌, ◌<◌}
-use Rattle.std.specs.Prelude.{◌≡◌, List, [], ◌∷◌, length}
+use Rattle.std.specs.Prelude.{◌≡◌, List, [], ◌∷◌, length, Some, None}
 use Rattle.std.proofs.Common.{◌∙◌}
 use native.Mathlib.Omega.{arith}
 use Rattle.frame.specs.declared.Frame.{Frame}
@@ -9,7 +9,6 @@ use Rattle.reading.specs.Steps.{step_at, onward, follow, steps_from, start}
 use Rattle.laws.specs.StepLaws as laws
 use Rattle.reading.specs.declared.State.{State}
 use Rattle.reading.specs.declared.Step.{Step}
-use Rattle.reading.specs.declared.Onward.{Onward}
 
 -- WHAT A RUN'S STATE KEEPS, with so many steps left: there are few of them, and the next argument's number moves by four at most in each
 pub record Kept (left : ℕ) (s : State) : Type 0 where
@@ -22,11 +21,11 @@ kept_start t h = record { next = omega (arith, h); few = omega (arith, h) }
 
 module _ (t : List ℕ) (f : Frame) (m : Mode) (s : State) {x : Step} (e : x ≡ step_at t f m s) where
   -- the next argument's number moves by four at most
-  pub step_next : {a : State} → onward s x ≡ Onward.To a → a.next ≤ s.next + 4
+  pub step_next : {a : State} → onward s x ≡ Some a → a.next ≤ s.next + 4
   step_next g = laws.step_next t f m s (rw e at g)
 
   -- so a state keeps what it keeps
-  pub kept_on : (k : ℕ) {a : State} → 0 < k → onward s x ≡ Onward.To a → Kept k s → Kept (k - 1) a
+  pub kept_on : (k : ℕ) {a : State} → 0 < k → onward s x ≡ Some a → Kept k s → Kept (k - 1) a
   kept_on k h g kept = record { next = omega (arith, h, kept.next, step_next g); few = omega (arith, kept.few) }
 
   -- the step, and what follows it
@@ -36,9 +35,9 @@ module _ (t : List ℕ) (f : Frame) (m : Mode) (s : State) {x : Step} (e : x ≡
   steps_some (suc k) h = let q : suc k - 1 ≡ k = omega arith in rw (← e, q)
 
   -- where reading goes on, those from there
-  pub steps_on : (k : ℕ) {a : State} → 0 < k → onward s x ≡ Onward.To a → steps_from k t f m s ≡ x ∷ steps_from (k - 1) t f m a
+  pub steps_on : (k : ℕ) {a : State} → 0 < k → onward s x ≡ Some a → steps_from k t f m s ≡ x ∷ steps_from (k - 1) t f m a
   steps_on k h g = steps_some k h ∙ rw g
 
   -- where it does not, nothing
-  pub steps_over : (k : ℕ) → 0 < k → onward s x ≡ Onward.Over → steps_from k t f m s ≡ x ∷ []
+  pub steps_over : (k : ℕ) → 0 < k → onward s x ≡ None → steps_from k t f m s ≡ x ∷ []
   steps_over k h g = steps_some k h ∙ rw g

@@ -1,6 +1,6 @@
 -- Laws of the figure that pieces want: of the larger of two numbers, of joined lists, and that no number which a step takes is large.
 -- Rests on Wants, Numbered and the parts of a placeholder.
-use Rattle.std.specs.Prelude.{ℕ, ◌+◌, ◌≤◌, ◌<◌, ◌≡◌, List, [], ◌∷◌, ◌++◌, ltb}
+use Rattle.std.specs.Prelude.{ℕ, ◌+◌, ◌≤◌, ◌<◌, ◌≡◌, List, [], ◌∷◌, ◌++◌, ltb, Option, Some, None}
 use Rattle.std.proofs.Common.{sym, subst, arith, ltb-true, ltb-false}
 use Rattle.utf8.specs.ChoiceLaws.{pick_elim}
 use Rattle.frame.specs.declared.Frame.{Frame}
@@ -10,7 +10,6 @@ use Rattle.scan.specs.Characters.{spaces_past}
 use Rattle.scan.specs.Words.{number_read}
 use Rattle.scan.specs.Counts.{number_count, name_count, count_after, count_read}
 use Rattle.scan.specs.declared.CountRead.{CountRead}
-use Rattle.scan.specs.declared.Number.{Number}
 use Rattle.placeholder.specs.Parts.{plain_width, width_read, after_dot, precision_read}
 use Rattle.placeholder.specs.Places.{place_read}
 use Rattle.placeholder.specs.Format.{format_read}
@@ -29,6 +28,7 @@ use Rattle.reading.specs.declared.Piece.{Piece}
 use Rattle.reading.specs.declared.State.{State}
 use Rattle.reading.specs.declared.Step.{Step}
 use Rattle.laws.specs.Numbered.{FewPlace, FewCount, FewArgument, Few}
+use Rattle.scan.specs.declared.Numeral.{Numeral}
 
 -- THE LARGER OF TWO NUMBERS is one of them, and not below the other
 pub larger_elim : (P : ℕ → Type 0) (a b : ℕ) → (b ≤ a → P a) → (a < b → P b) → P (larger a b)
@@ -76,9 +76,9 @@ module _ (t : List ℕ) (f : Frame) where
   unfolding count_read number_count name_count
   count_few at = go (number_read t at).number
     where
-      go : (x : Number) → FewCount (count_after t f at (number_read t at) x).count
-      go (Number.Given n) = pick_elim (λ (r : CountRead). FewCount r.count) _ (λ _. tt) (λ _. tt)
-      go Number.Nothing =
+      go : (x : Option Numeral) → FewCount (count_after t f at (number_read t at) x).count
+      go (Some n) = pick_elim (λ (r : CountRead). FewCount r.count) _ (λ _. tt) (λ _. tt)
+      go None =
           let P : CountRead → Type 0 = λ r. FewCount r.count in
           pick_elim P _ (λ _. tt) (λ _. pick_elim P _ (λ _. tt) (λ _. tt))
 

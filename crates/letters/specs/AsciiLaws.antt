@@ -1,9 +1,8 @@
 -- Laws of ASCII: below 0x80 the short tests answer as the tables do, by one computed test each. Rests on Ascii and Questions.
-use Rattle.std.specs.Prelude.{ℕ, zero, suc, ◌≤◌, ◌<◌, ◌≡◌, refl, Bool, true, false, ◌⊎◌, T, leb, ltb}
-use Rattle.std.proofs.Common.{sym, ◌∙◌, true≢false, inl, inr, le_of_suc-le-suc, eq-or-lt_of_le, arith, le-leb, ne_eqb, ltb-true, ltb-false}
+use Rattle.std.specs.Prelude.{ℕ, zero, suc, ◌<◌, ◌≡◌, refl, Bool, true, false, ◌⊎◌, T}
+use Rattle.std.proofs.Common.{◌∙◌, inl, inr, le_of_suc-le-suc, eq-or-lt_of_le, arith, le-leb, ne_eqb}
 use Rattle.std.proofs.lemmas.Bool.{lt-leb}
 use Rattle.utf8.specs.Choice.{both, within}
-use Rattle.utf8.specs.ChoiceLaws.{either_false}
 use Rattle.letters.specs.Table.{member}
 use Rattle.letters.specs.TableLaws.{left_of, right_of}
 use Rattle.letters.specs.Space.{space}

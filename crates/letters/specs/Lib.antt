@@ -9,6 +9,5 @@ pub mod Continue
 pub mod Frequent
 pub mod Ascii
 pub mod Questions
-pub mod Asked
 pub mod QuestionLaws
 pub mod AsciiLaws

@@ -12,8 +12,8 @@ use frame::TextPlace;
 // How many of the four bytes at `at` stand before the first brace among them; four where there is none.
 fn plain_of_four(text: &[u8], at: usize) -> usize
     requires { at + 4 ≤ length text.now }
-    ensures result_value { (run_end is_plain text.now (at + result) ≡ run_end is_plain text.now at) × (result ≤ 4) }
-    ensures result_value_2 { result < 4 → at + result ≡ run_end is_plain text.now at }
+    ensures same_end { (run_end is_plain text.now (at + result) ≡ run_end is_plain text.now at) × (result ≤ 4) }
+    ensures found { result < 4 → at + result ≡ run_end is_plain text.now at }
 {
     if scan::plain(text[at]) == 0 {
         return 0;

@@ -1,4 +1,5 @@
 -- A run over the steps: what it has met is what there is in the pieces so far, a step at a time. Rests on Meetings and on the laws of the steps.
+use Rattle.std.specs.Prelude.{Some, None}
 use Prim.Native.Nat.{ℕ, suc, ◌+◌, ◌-◌, ◌≤◌, ◌<◌}
 use mathlib.Core.Path.{◌≡◌, refl, ap, sym, ◌∙◌}
 use mathlib.Core.Bool.{Bool, true, false}
@@ -13,7 +14,6 @@ use Rattle.frame.specs.declared.Mode.{Mode}
 use Rattle.reading.specs.Steps.{step_at, onward, follow, steps_from, start, reading}
 use Rattle.reading.specs.Faults.{step_slots, wrong, faults_of}
 use Rattle.reading.specs.Lists.{gather, pieces_of, pieces, errors}
-use Rattle.reading.specs.declared.Onward.{Onward}
 use Rattle.reading.specs.declared.Piece.{Piece}
 use Rattle.reading.specs.declared.State.{State}
 use Rattle.reading.specs.declared.Step.{Step}
@@ -170,14 +170,14 @@ module _ (t : List ℕ) (f : Frame) where
       now_met = new ∙ ap (λ (m : Met). met_step t m x) walk.met ∙ met_step_lem t walk.past x
 
       -- reading is over
-      sound_over : onward s x ≡ Onward.Over → told n ≡ text_verdict t f
+      sound_over : onward s x ≡ None → told n ≡ text_verdict t f
       sound_over o =
           let e = steps_over t f Mode.Format s step k more o in
           rw now_met
           (without (sym walk.the_faults ∙ rw (e, gather_one) sound) (rw (e, gather_one) at walk.the_pieces))
 
       -- reading goes on
-      sound_on : {a : State} → onward s x ≡ Onward.To a → Walk (k - 1) a n
+      sound_on : {a : State} → onward s x ≡ Some a → Walk (k - 1) a n
       sound_on {a} o =
           let e = steps_on t f Mode.Format s step k more o in
           record {
@@ -201,10 +201,10 @@ module _ (t : List ℕ) (f : Frame) where
           step_wrong first l (omega (arith, g, rw (steps_some t f Mode.Format s step k more, gather_more) at h)))
 
       -- and one that did not
-      pub walk_over : 13 ≤ w → {n : Met} → n ≡ met_step t m x → onward s x ≡ Onward.Over → told n ≡ text_verdict t f
+      pub walk_over : 13 ≤ w → {n : Met} → n ≡ met_step t m x → onward s x ≡ None → told n ≡ text_verdict t f
       walk_over l new o = sound_over (step_sound first l) new o
 
-      pub walk_on : 13 ≤ w → {n : Met} → n ≡ met_step t m x → {a : State} → onward s x ≡ Onward.To a → Walk (k - 1) a n
+      pub walk_on : 13 ≤ w → {n : Met} → n ≡ met_step t m x → {a : State} → onward s x ≡ Some a → Walk (k - 1) a n
       walk_on l new o = sound_on (step_sound first l) new o
 
   -- a step that is clear

@@ -4,14 +4,18 @@ use mathlib.Core.Path.{◌≡◌, refl, sym, ◌∙◌}
 use mathlib.Core.Logic.{◌⊎◌, inl, inr}
 use mathlib.Core.Bool.{Bool, true, false, not, true≢false}
 use mathlib.Core.List.{List, [], ◌∷◌}
-use borrow.Author.Tests.{eq-eqb, ne_eqb, lt-ltb, le-ltb, leb-true, leb-false}
+use borrow.Author.Tests.{ne_eqb, lt-ltb, le-ltb, leb-true, leb-false}
 use lib.Dec.{eqb, leb, ltb}
 use Rattle.utf8.specs.Choice.{pick}
 use Rattle.reading.specs.Answers.{frame_for, refusal, first_of}
 use Rattle.reading.specs.declared.Request.{Request}
 use Rattle.laws.specs.Deciding as deciding
 use Rattle.answer.specs.Decisions.{Opened}
-use Rattle.answer.specs.declared.Decision.{Decision}
+use Rattle.answer.specs.DecisionLaws.{never_zero}
+use Rattle.answer.specs.Refusals.{number_of, place_of, answer_in}
+use Rattle.answer.specs.declared.Readable.{Readable}
+use Rattle.answer.specs.declared.Refusal.{Refusal}
+use Rattle.std.specs.Prelude.{Result, Ok, Err}
 use Rattle.membership.specs.Verdicts.{text_verdict, refused_as, judged_of}
 use Rattle.membership.specs.declared.Verdict.{Verdict}
 use Rattle.member.specs.Meetings.{is_other}
@@ -62,17 +66,18 @@ module _ (t s : List ℕ) (q : Request) where
       go true e h = absurd (true≢false (sym h))
       go false e h = rw (e, le-ltb 2 q.mode (leb-true q.mode 2 h))
 
-  module _ (mode : Allowed q.mode) {d : Decision} (x : Opened t s q d) where
-    decided : judged_of t s q ≡ pick (eqb d.answer.number 0) (text_verdict t (frame_for t s q)) (Verdict.Refused d.answer.number d.answer.place)
+  module _ (mode : Allowed q.mode) where
+    decided : (r : Result Readable Refusal) → Opened t s q r →
+        judged_of t s q ≡ pick (eqb (answer_in r).number 0) (text_verdict t (frame_for t s q)) (Verdict.Refused (answer_in r).number (answer_in r).place)
     unfolding judged_of refused_as deciding.open_answer
-    decided = rw x.answer (in_order _ _ _ _ _ _ _ _ mode)
+    decided r x = rw x.answer (in_order _ _ _ _ _ _ _ _ mode)
 
     -- a refusal
-    pub is_refused : ¬ (d.answer.number ≡ 0) → Verdict.Refused d.answer.number d.answer.place ≡ judged_of t s q
+    pub is_refused : {e : Refusal} → Opened t s q (Err e) → Verdict.Refused (number_of e) (place_of e) ≡ judged_of t s q
     unfolding pick
-    is_refused h = sym (decided ∙ rw (ne_eqb d.answer.number 0 h))
+    is_refused {e} x = sym (decided (Err e) x ∙ rw (ne_eqb (number_of e) 0 (never_zero e)))
 
     -- none
-    pub is_open : d.answer.number ≡ 0 → text_verdict t d.frame ≡ judged_of t s q
+    pub is_open : {y : Readable} → Opened t s q (Ok y) → text_verdict t y.frame ≡ judged_of t s q
     unfolding pick
-    is_open h = rw (x.frame h) (sym (decided ∙ rw (eq-eqb d.answer.number 0 h)))
+    is_open {y} x = rw x.readable.frame (sym (decided (Ok y) x))

@@ -1,5 +1,5 @@
 -- What a run over the pieces has met, a piece at a time, and what it is told at the end. No contract of a call cites this. Rests on membership's definitions.
-use Rattle.std.specs.Prelude.{ℕ, ◌+◌, ◌≡◌, Bool, true, false, not, List, eqb, leb, ltb, length}
+use Rattle.std.specs.Prelude.{ℕ, ◌+◌, ◌≡◌, Bool, true, false, not, List, eqb, leb, ltb, length, Option, None, Some}
 use Rattle.utf8.specs.Choice.{pick, either}
 use Rattle.frame.specs.declared.Frame.{Frame}
 use Rattle.frame.specs.declared.Mode.{Mode}
@@ -15,6 +15,7 @@ use Rattle.member.specs.declared.Sorts.{Sorts}
 use Rattle.member.specs.declared.Met.{Met}
 use Rattle.member.specs.declared.clear.MetOn.{MetOn}
 use Rattle.passing.specs.Clear.{Clear}
+use Rattle.quick.specs.declared.CountKind.{CountKind}
 use Rattle.quick.specs.declared.PlaceholderTold.{PlaceholderTold}
 
 -- the sorts of a placeholder, and of a literal
@@ -91,13 +92,24 @@ met_of t ps =
       date = first_where (is_called t date) ps;
     }
 
--- one of the counts behind a colon is taken, by its tag: an argument's number, a star or a name
+-- a count is taken: an argument's number, a star or a name
+abbrev pub kind_taken : CountKind → Bool
+kind_taken CountKind.Nothing = false
+kind_taken (CountKind.Number value) = false
+kind_taken (CountKind.Argument value) = true
+kind_taken CountKind.Star = true
+kind_taken CountKind.Name = true
+kind_taken CountKind.Dot = false
+
+-- one of those behind a colon is
 unfoldable pub taken_told : PlaceholderTold → Bool
-taken_told x =
-    let precision = x.spec.precision.tag in
-    pick x.colon (pick (ltb 1 x.spec.width.tag) true (pick (eqb precision 5) false (ltb 1 precision))) false
+taken_told x = pick x.colon (either (kind_taken x.spec.width.kind) (kind_taken x.spec.precision.kind)) false
 
 -- A STEP IN WHICH NOTHING IS WRONG is met: reading goes on, and its piece is one more
-pub record ClearMet (t : List ℕ) (f : Frame) (s : State) (m : Met) (r : MetOn) : Type 0 where
-  pub clear : r.on ≡ true → Clear t f Mode.Format s r.state
-  pub met : r.on ≡ true → r.met ≡ met_step t m (step_at t f Mode.Format s)
+pub record StepMet (t : List ℕ) (f : Frame) (s : State) (m : Met) (r : MetOn) : Type 0 where
+  pub clear : Clear t f Mode.Format s r.state
+  pub met : r.met ≡ met_step t m (step_at t f Mode.Format s)
+
+abbrev pub ClearMet : List ℕ → Frame → State → Met → Option MetOn → Type 0
+ClearMet t f s m None = Unit {0}
+ClearMet t f s m (Some r) = StepMet t f s m r

@@ -15,7 +15,7 @@ use crate::clear::met_clear;
 use frame::{Frame, Mode};
 use membership::Verdict;
 use placeholder::Place;
-use reading::{Onward, Request, Step};
+use reading::{Request, Step};
 use scan::Count;
 
 // Which sorts a piece is of.
@@ -237,7 +237,6 @@ fn checked(text: &[u8], frame: Frame) -> Verdict
 {
     let cursor = turns::first_cursor(text);
     let mut state = cursor.state;
-    let mut left = cursor.left;
     let mut met = Met {
         pieces: 0,
         unnamed: 0,
@@ -246,27 +245,20 @@ fn checked(text: &[u8], frame: Frame) -> Verdict
         again: 0,
         date: 0,
     };
-    while 0 < left {
-        let clear = met_clear(text, frame, state, met);
-        if clear.on {
+    for _ in 0..cursor.left {
+        if let Some(clear) = met_clear(text, frame, state, met) {
             state = clear.state;
             met = clear.met;
-            left -= 1;
         } else {
             let step = steps::step_at(text, frame, Mode::Format, state);
             if faults::first_wrong(step, 0) < 13 {
                 return Verdict::Broken(1, 0);
             }
             met = met_step(text, met, step);
-            match steps::go_on(state, step) {
-                Onward::Over => {
-                    return verdict_of(met);
-                }
-                Onward::To(after) => {
-                    state = after;
-                    left -= 1;
-                }
-            }
+            let Some(after) = steps::go_on(state, step) else {
+                return verdict_of(met);
+            };
+            state = after;
         }
     }
     verdict_of(met)
@@ -289,11 +281,8 @@ pub fn judge(text: &[u8], snippet: &[u8], request: Request) -> Verdict
     if is_other(request.mode) {
         return Verdict::Refused(17, 0);
     }
-    let first = answer::decide::opened(text, snippet, request);
-    let answer = first.answer;
-    let frame = first.frame;
-    if answer.number != 0 {
-        return Verdict::Refused(answer.number, answer.place);
+    match answer::decide::opened(text, snippet, request) {
+        Ok(readable) => checked(text, readable.frame),
+        Err(refusal) => Verdict::Refused(u8::from(refusal), refusal.place()),
     }
-    checked(text, frame)
 }

@@ -6,29 +6,9 @@ ghost use Rattle.frame.specs.Bounds.{Small};
 
 use frame::{Frame, Mode, TextRange};
 use membership::Verdict;
-use reading::{Hashes, Piece, Request};
+use reading::{Piece, Request};
 use std::io;
 use std::io::Write;
-
-// Whether a text has a piece, and its bytes.
-#[derive(Clone, Copy)]
-struct PieceFound {
-    there: bool,
-    range: TextRange,
-}
-
-// Two numbers, each behind a word, and the end of the line.
-fn line<W: Write>(out: &mut W, first: &[u8], a: usize, second: &[u8], b: usize) -> io::Result<()> {
-    out.write_all(first)?;
-    write!(out, "{a}")?;
-    out.write_all(second)?;
-    writeln!(out, "{b}")
-}
-
-// What a person is told.
-fn say<E: Write>(err: &mut E, words: &[u8]) -> io::Result<()> {
-    err.write_all(words)
-}
 
 // The bytes of a piece.
 fn range_of(piece: Piece) -> TextRange {
@@ -39,44 +19,32 @@ fn range_of(piece: Piece) -> TextRange {
 }
 
 // The piece that is counted k, from 0; past the last there is none.
-fn piece_at(text: &[u8], frame: Frame, k: usize) -> PieceFound
+fn piece_at(text: &[u8], frame: Frame, k: usize) -> Option<Piece>
     requires { Small text.now frame }
 {
-    let start = turns::first_cursor(text);
-    let mut turn = turns::next_piece(text, frame, Mode::Format, start);
+    let mut cursor = turns::first_cursor(text);
     for _ in 0..k {
-        turn = turns::next_piece(text, frame, Mode::Format, turn.cursor);
+        cursor = turns::next_piece(text, frame, Mode::Format, cursor)?.cursor;
     }
-    PieceFound {
-        there: turn.more,
-        range: range_of(turn.piece),
-    }
+    Some(turns::next_piece(text, frame, Mode::Format, cursor)?.piece)
 }
 
 // Which piece, and how it is written.
 fn say_piece<E: Write>(err: &mut E, text: &[u8], k: usize, range: TextRange) -> io::Result<()> {
     write!(err, ", piece {k} `")?;
-    say(err, steps::text::literal_text(text, range))?;
-    say(err, b"`")
+    err.write_all(steps::text::literal_text(text, range))?;
+    write!(err, "`")
 }
 
-// A rule that is broken at a piece, or by the lack of one.
-fn say_rule<E: Write>(err: &mut E, rule: u8, there: bool) -> io::Result<()> {
+// A rule in words: it is broken at a piece, or by the lack of one.
+fn rule_in_words(rule: u8, there: bool) -> &'static str {
     match rule {
-        1 => say(err, b"rule 1: the text has an error"),
-        2 => say(err, b"rule 2: a place is no name"),
-        3 => say(
-            err,
-            b"rule 3: a width or precision is taken from an argument, a star or a name",
-        ),
-        4 => {
-            if there {
-                say(err, b"rule 4: a second place is called number")
-            } else {
-                say(err, b"rule 4: no place is called number")
-            }
-        }
-        _ => say(err, b"rule 5: the date stands before the number"),
+        1 => "rule 1: the text has an error",
+        2 => "rule 2: a place is no name",
+        3 => "rule 3: a width or precision is taken from an argument, a star or a name",
+        4 if there => "rule 4: a second place is called number",
+        4 => "rule 4: no place is called number",
+        _ => "rule 5: the date stands before the number",
     }
 }
 
@@ -88,24 +56,25 @@ fn explain<E: Write>(
     rule: u8,
     k: usize,
 ) -> io::Result<()> {
-    let first = answer::decide::opened(text, b"", request);
-    if first.answer.number != 0 {
+    let Ok(readable) = answer::decide::opened(text, b"", request) else {
         return Ok(());
+    };
+    let piece = piece_at(text, readable.frame, k);
+    let words = rule_in_words(rule, piece.is_some());
+    write!(err, "{words}")?;
+    if let Some(piece) = piece
+        && rule != 1
+    {
+        say_piece(err, text, k, range_of(piece))?;
     }
-    let piece = piece_at(text, first.frame, k);
-    say_rule(err, rule, piece.there)?;
-    if piece.there && rule != 1 {
-        say_piece(err, text, k, piece.range)?;
-    }
-    say(err, b"\n")
+    writeln!(err)
 }
 
 // A refusal in words: with no style and Format it is 3 or 4.
-fn say_refusal<E: Write>(err: &mut E, number: u8) -> io::Result<()> {
-    if number == 3 {
-        say(err, b"refused: the text has more than 65,535 bytes\n")
-    } else {
-        say(err, b"refused: the text is not UTF-8\n")
+fn refusal_in_words(number: u8) -> &'static str {
+    match number {
+        3 => "the text has more than 65,535 bytes",
+        _ => "the text is not UTF-8",
     }
 }
 
@@ -113,22 +82,23 @@ fn say_refusal<E: Write>(err: &mut E, number: u8) -> io::Result<()> {
 fn tell<W: Write, E: Write>(out: &mut W, err: &mut E, text: &[u8]) -> io::Result<()> {
     let request = Request {
         mode: 0,
-        style: Hashes::Plain,
+        style: None,
         given: false,
         newline: false,
     };
     match member::judge(text, b"", request) {
         Verdict::Yes => {
-            out.write_all(b"yes\n")?;
-            say(err, b"a member template\n")
+            writeln!(out, "yes")?;
+            writeln!(err, "a member template")
         }
         Verdict::Broken(rule, piece) => {
-            line(out, b"rule ", rule as usize, b" piece ", piece)?;
+            writeln!(out, "rule {rule} piece {piece}")?;
             explain(err, text, request, rule, piece)
         }
         Verdict::Refused(number, place) => {
-            line(out, b"answer ", number as usize, b" ", place)?;
-            say_refusal(err, number)
+            let words = refusal_in_words(number);
+            writeln!(out, "answer {number} {place}")?;
+            writeln!(err, "refused: {words}")
         }
     }
 }

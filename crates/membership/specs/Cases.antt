@@ -1,6 +1,6 @@
 -- Worked verdicts, each computed from the definitions: every rule broken alone and with later ones, texts that break none, and the refusals in
 -- their order. Rests on Verdicts and on the reader's definitions, on no law.
-use Rattle.std.specs.Prelude.{◌≡◌, refl, true, false, List, [], ◌∷◌, map, ℕ}
+use Rattle.std.specs.Prelude.{◌≡◌, refl, true, false, List, [], ◌∷◌, map, ℕ, Some, None}
 use Prim.Native.String.{String}
 use Rattle.utf8.specs.Choice.{pick, within}
 use Rattle.utf8.specs.Utf8.{low, high, sequence_of, char_of, sequence_at, decode, peek_at, valid, valid_prefix}
@@ -32,7 +32,6 @@ use Rattle.reading.specs.Lists.{gather, pieces, front_only, back_only, reversed,
 use Rattle.reading.specs.Texts.{is_boundary, literal_text}
 use Rattle.reading.specs.Answers.{is_long, is_broken, ends_in_newline, lacks_newline, frame_for, first_of}
 use Rattle.reading.specs.Cases.{bytes_of, ask}
-use Rattle.reading.specs.declared.Hashes.{Hashes}
 use Rattle.reading.specs.declared.Request.{Request}
 use Rattle.membership.specs.Verdicts.{first_where, second_where, pieces_verdict, text_verdict, refused_as, judged_of}
 use Rattle.membership.specs.declared.Verdict.{Verdict}
@@ -49,7 +48,7 @@ judged c = record { text = c.text; request = c.request; verdict = judged_of c.te
 
 -- a Format text with no style
 abbrev of : String → Verdict → Judged
-of t v = record { text = bytes_of t; request = ask 0 Hashes.Plain false false; verdict = v }
+of t v = record { text = bytes_of t; request = ask 0 None false false; verdict = v }
 
 abbrev yes : String → Judged
 yes t = of t Verdict.Yes
@@ -124,13 +123,13 @@ dates =
 abbrev pub refusals : List Judged
 refusals =
     -- 1 before 17 and 2; 17 before 2 and 4; 2 before 4; 4 before 5; 5
-    refused [] (ask 3 Hashes.Plain true false) 1 0 ∷
-    refused (0xFF ∷ []) (ask 1 Hashes.Plain true false) 17 0 ∷
-    refused (bytes_of "{number}") (ask 2 Hashes.Plain false false) 17 0 ∷
-    refused (0xFF ∷ []) (ask 0 Hashes.Plain true false) 2 0 ∷
-    refused [] (ask 0 (Hashes.Raw 256) false false) 2 0 ∷
-    refused (0x61 ∷ 0xFF ∷ []) (ask 0 Hashes.Plain false true) 4 1 ∷
-    refused (bytes_of "{number}") (ask 0 Hashes.Plain false true) 5 0 ∷
+    refused [] (ask 3 None true false) 1 0 ∷
+    refused (0xFF ∷ []) (ask 1 None true false) 17 0 ∷
+    refused (bytes_of "{number}") (ask 2 None false false) 17 0 ∷
+    refused (0xFF ∷ []) (ask 0 None true false) 2 0 ∷
+    refused [] (ask 0 (Some 256) false false) 2 0 ∷
+    refused (0x61 ∷ 0xFF ∷ []) (ask 0 None false true) 4 1 ∷
+    refused (bytes_of "{number}") (ask 0 None false true) 5 0 ∷
     []
 
 -- each is what the definitions give

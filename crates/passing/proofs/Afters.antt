@@ -1,72 +1,60 @@
--- Where reading stands after what is told: the place and the counts by their tags, what they want, and that it is what the argument wants.
+-- Where reading stands after what is told: the place and the counts, what they want, and that it is what the argument wants.
 -- Rests on After, quick's Tellings and `laws`' WantLaws.
-use Prim.Native.Nat.{ℕ, ◌+◌, ◌≤◌, ◌<◌}
+use Prim.Native.Nat.{ℕ, ◌+◌, ◌≤◌}
 use mathlib.Core.Path.{◌≡◌, refl, sym, ap, ◌∙◌}
 use mathlib.Core.Bool.{Bool, true, false}
 use mathlib.Core.List.{List}
 use native.Mathlib.Omega.{arith}
-use borrow.Author.Tests.{eqb-true, eqb-false, eq-eqb, ne_eqb}
-use lib.Dec.{eqb}
 use Rattle.utf8.specs.Choice.{pick}
 use Rattle.utf8.specs.ChoiceLaws.{pick_elim}
-use Rattle.frame.specs.Places.{place, range_of}
+use Rattle.frame.specs.Places.{place}
 use Rattle.frame.specs.declared.Frame.{Frame}
-use Rattle.scan.specs.declared.Count.{Count}
-use Rattle.scan.specs.declared.Numeral.{Numeral}
 use Rattle.placeholder.specs.Arguments.{resolved}
 use Rattle.placeholder.specs.Specs.{no_spec}
-use Rattle.placeholder.specs.declared.Place.{Place}
 use Rattle.placeholder.specs.declared.Spec.{Spec}
 use Rattle.placeholder.specs.declared.position.Found.{Found}
 use Rattle.reading.specs.Steps.{state_of}
 use Rattle.reading.specs.Wants.{larger, place_wants, count_wants, argument_wants}
 use Rattle.laws.specs.WantLaws.{larger_left, larger_right, larger_least, larger_none, larger_assoc}
 use Rattle.reading.specs.declared.State.{State}
-use Rattle.quick.specs.Tellings.{found_of, count_of, name_of, width_of, precision_of, after_star, spec_of, argument_of, next_of}
-use Rattle.quick.specs.PartsTold.{part}
-use Rattle.quick.specs.declared.PartTold.{PartTold}
+use Rattle.quick.specs.Tellings.{place_found, found_of, count_found, width_of, precision_of, is_star, after_star, spec_of, argument_of, next_of}
+use Rattle.quick.specs.PartsTold.{count_none}
+use Rattle.quick.specs.declared.PlaceKind.{PlaceKind}
+use Rattle.quick.specs.declared.PlacePart.{PlacePart}
+use Rattle.quick.specs.declared.CountKind.{CountKind}
+use Rattle.quick.specs.declared.CountPart.{CountPart}
 use Rattle.quick.specs.declared.PlaceholderTold.{PlaceholderTold}
-use Rattle.passing.specs.After.{place_of, width_wants, precision_wants, with_counts, told_state}
+use Rattle.passing.specs.After.{place_of, kind_wants, with_counts, told_state}
+
+-- A COUNT that is no star
+pub not_star : (k : CountKind) → (k ≡ CountKind.Star → ⊥) → is_star k ≡ false
+not_star CountKind.Nothing n = refl
+not_star (CountKind.Number v) n = refl
+not_star (CountKind.Argument v) n = refl
+not_star CountKind.Star n = absurd (n refl)
+not_star CountKind.Name n = refl
+not_star CountKind.Dot n = refl
 
 -- NUMBERS OF ARGUMENTS: a star takes one at most
-pub star_few : (n : ℕ) (p : PartTold) → after_star n p ≤ n + 1
+pub star_few : (n : ℕ) (p : CountPart) → after_star n p ≤ n + 1
 unfolding after_star
-star_few n p = pick_elim (λ (m : ℕ). m ≤ n + 1) (eqb p.tag 3) (λ _. omega arith) (λ _. omega arith)
+star_few n p = pick_elim (λ (m : ℕ). m ≤ n + 1) (is_star p.kind) (λ _. omega arith) (λ _. omega arith)
 
 -- and none where there is no precision
-pub star_none : (n : ℕ) {p : PartTold} {at : ℕ} → p ≡ part 0 0 at false → after_star n p ≡ n
+pub star_none : (n : ℕ) {p : CountPart} {at : ℕ} → p ≡ count_none at → after_star n p ≡ n
 unfolding after_star pick
 star_none n e = rw e
 
--- THE PLACE by its tag: nothing, a number, a word
-module _ (at : ℕ) (p : PartTold) where
-  found_none : p.tag ≡ 0 → found_of at p ≡ Found.Nothing
-  unfolding found_of pick
-  found_none e = rw (eq-eqb p.tag 0 e)
+-- A COUNT that is taken from no argument wants none
+pub wants_none : (n : ℕ) (k : CountKind) → ((v : ℕ) → k ≡ CountKind.Argument v → ⊥) → (k ≡ CountKind.Star → ⊥) → kind_wants n k ≡ 0
+wants_none n CountKind.Nothing a b = refl
+wants_none n (CountKind.Number v) a b = refl
+wants_none n (CountKind.Argument v) a b = absurd (a v refl)
+wants_none n CountKind.Star a b = absurd (b refl)
+wants_none n CountKind.Name a b = refl
+wants_none n CountKind.Dot a b = refl
 
-  module _ (some : p.tag ≡ 0 → ⊥) where
-    found_number : p.tag ≡ 1 → found_of at p ≡ Found.Number (Numeral.Within p.value)
-    unfolding found_of pick
-    found_number e = rw (ne_eqb p.tag 0 some, eq-eqb p.tag 1 e)
-
-    found_word : (p.tag ≡ 1 → ⊥) → found_of at p ≡ Found.Word (range_of (place at) (place p.end))
-    unfolding found_of pick
-    found_word e = rw (ne_eqb p.tag 0 some, ne_eqb p.tag 1 e)
-
-  module _ (n : ℕ) where
-    pub place_next : p.tag ≡ 0 → place_of at p n ≡ Place.Next n
-    unfolding place_of
-    place_next e = ap (λ (o : Found). (resolved o n).place) (found_none e)
-
-    pub place_number_lem : (p.tag ≡ 0 → ⊥) → p.tag ≡ 1 → place_of at p n ≡ Place.At (Numeral.Within p.value)
-    unfolding place_of
-    place_number_lem some e = ap (λ (o : Found). (resolved o n).place) (found_number some e)
-
-    pub place_word : (p.tag ≡ 0 → ⊥) → (p.tag ≡ 1 → ⊥) → place_of at p n ≡ Place.Named (range_of (place at) (place p.end))
-    unfolding place_of
-    place_word some e = ap (λ (o : Found). (resolved o n).place) (found_word some e)
-
--- WHERE READING STANDS afterwards: a place that is not written takes an argument's number
+-- THE STATE by the place: nothing, a number, a word
 module _ (s : State) (x : PlaceholderTold) where
   abbrev starred : ℕ
   starred = after_star s.next x.spec.precision
@@ -77,107 +65,48 @@ module _ (s : State) (x : PlaceholderTold) where
   abbrev standing : Found → State
   standing o = state_of (place x.on) (resolved o starred).next (larger figure (place_wants (resolved o starred).place))
 
-  pub state_implied : x.place.tag ≡ 0 → state_of (place x.on) (starred + 1) (larger figure (starred + 1)) ≡ told_state s x
+  found_here : {k : PlaceKind} → x.place.kind ≡ k → place_found 0 x.place.end k ≡ found_of 0 x.place
+  unfolding found_of
+  found_here e = ap (place_found 0 x.place.end) (sym e)
+
+  pub state_implied : x.place.kind ≡ PlaceKind.Nothing → state_of (place x.on) (starred + 1) (larger figure (starred + 1)) ≡ told_state s x
   unfolding told_state next_of place_of
-  state_implied e = sym (ap standing (found_none 0 x.place e))
+  state_implied e = ap standing (found_here e)
 
-  module _ (some : x.place.tag ≡ 0 → ⊥) where
-    pub state_number : x.place.tag ≡ 1 → state_of (place x.on) starred (larger figure (x.place.value + 1)) ≡ told_state s x
-    unfolding told_state next_of place_of
-    state_number e = sym (ap standing (found_number 0 x.place some e))
+  pub state_number : {v : ℕ} → x.place.kind ≡ PlaceKind.Number v → state_of (place x.on) starred (larger figure (v + 1)) ≡ told_state s x
+  unfolding told_state next_of place_of
+  state_number e = ap standing (found_here e)
 
-    pub state_named : (x.place.tag ≡ 1 → ⊥) → state_of (place x.on) starred figure ≡ told_state s x
-    unfolding told_state next_of place_of
-    state_named e = ap (λ (n : ℕ). state_of (place x.on) starred n) (sym (larger_none figure)) ∙ sym (ap standing (found_word 0 x.place some e))
+  pub state_named : x.place.kind ≡ PlaceKind.Word → state_of (place x.on) starred figure ≡ told_state s x
+  unfolding told_state next_of place_of
+  state_named e = ap (λ (n : ℕ). state_of (place x.on) starred n) (sym (larger_none figure)) ∙ ap standing (found_here e)
 
--- A COUNT by its tag: nothing, a number, an argument's number, a star
-module _ (n : ℕ) (p : PartTold) where
-  pub count_implied : p.tag ≡ 0 → count_of n p ≡ Count.Implied
-  unfolding count_of pick
-  count_implied e = rw (eq-eqb p.tag 0 e)
-
-  module _ (some : p.tag ≡ 0 → ⊥) where
-    pub count_one : p.tag ≡ 1 → count_of n p ≡ Count.Fixed (Numeral.Within p.value)
-    unfolding count_of pick
-    count_one e = rw (ne_eqb p.tag 0 some, eq-eqb p.tag 1 e)
-
-    pub count_two : p.tag ≡ 2 → count_of n p ≡ Count.ByArgument (Numeral.Within p.value)
-    unfolding count_of pick
-    count_two e = rw (ne_eqb p.tag 0 some, ne_eqb p.tag 1 (λ d. omega arith), eq-eqb p.tag 2 e)
-
-    pub count_star : p.tag ≡ 3 → count_of n p ≡ Count.ByStar n
-    unfolding count_of pick
-    count_star e = rw (ne_eqb p.tag 0 some, ne_eqb p.tag 1 (λ d. omega arith), ne_eqb p.tag 2 (λ d. omega arith))
-
--- WHAT IT WANTS: a count by its tag
-module _ (n : ℕ) (p : PartTold) where
-  pub count_fixed : p.tag ≤ 1 → 0 ≡ count_wants (count_of n p)
-  count_fixed h = go (eqb p.tag 0) refl
-    where
-      go : (b : Bool) → eqb p.tag 0 ≡ b → 0 ≡ count_wants (count_of n p)
-      go true e = sym (ap count_wants (count_implied n p (eqb-true p.tag 0 e)))
-      go false e =
-          let some = eqb-false p.tag 0 e in
-          let one : p.tag ≡ 1 = omega (arith, h, some) in
-          sym (ap count_wants (count_one n p some one))
-
-  pub count_given : p.tag ≡ 2 → p.value + 1 ≡ count_wants (count_of n p)
-  count_given e = sym (ap count_wants (count_two n p (λ z. omega (arith, e, z)) e))
-
-  pub count_starred : 1 < p.tag → (p.tag ≡ 2 → ⊥) → n + 1 ≡ count_wants (count_of n p)
-  unfolding count_of pick
-  count_starred h two = rw (ne_eqb p.tag 0 (λ z. omega (arith, h, z)), ne_eqb p.tag 1 (λ z. omega (arith, h, z)), ne_eqb p.tag 2 two)
-
--- a place wherever it stands
-same_place : (a b k : ℕ) (p : PartTold) → place_wants (place_of a p k) ≡ place_wants (place_of b p k)
-unfolding place_of found_of pick
-same_place a b k p = go (eqb p.tag 0) (eqb p.tag 1)
+-- WHAT A PLACE WANTS, wherever it stands
+same_place : (a b k : ℕ) (p : PlacePart) → place_wants (place_of a p k) ≡ place_wants (place_of b p k)
+unfolding place_of found_of
+same_place a b k p = go p.kind
   where
-    go : (x y : Bool) →
-        place_wants (resolved (pick x Found.Nothing (pick y (Found.Number (Numeral.Within p.value)) (Found.Word (range_of (place a) (place p.end))))) k).place ≡
-        place_wants (resolved (pick x Found.Nothing (pick y (Found.Number (Numeral.Within p.value)) (Found.Word (range_of (place b) (place p.end))))) k).place
-    go true y = refl
-    go false true = refl
-    go false false = refl
+    go : (o : PlaceKind) → place_wants (resolved (place_found a p.end o) k).place ≡ place_wants (resolved (place_found b p.end o) k).place
+    go PlaceKind.Nothing = refl
+    go (PlaceKind.Number v) = refl
+    go PlaceKind.Word = refl
 
--- a width by its tag
-module _ (n : ℕ) (p : PartTold) where
-  pub width_named : p.tag ≡ 4 → 0 ≡ width_wants n p
-  unfolding width_wants pick
-  width_named e = rw (eq-eqb p.tag 4 e)
+-- and a count
+found_wants : (t : List ℕ) (f : Frame) (n from end : ℕ) (k : CountKind) → count_wants (count_found t f n from end k) ≡ kind_wants n k
+found_wants t f n from end CountKind.Nothing = refl
+found_wants t f n from end (CountKind.Number v) = refl
+found_wants t f n from end (CountKind.Argument v) = refl
+found_wants t f n from end CountKind.Star = refl
+found_wants t f n from end CountKind.Name = refl
+found_wants t f n from end CountKind.Dot = refl
 
-  pub width_other : (p.tag ≡ 4 → ⊥) → count_wants (count_of n p) ≡ width_wants n p
-  unfolding width_wants pick
-  width_other e = rw (ne_eqb p.tag 4 e)
+width_wants_lem : (t : List ℕ) (f : Frame) (n from : ℕ) (p : CountPart) → count_wants (width_of t f n from p) ≡ kind_wants n p.kind
+unfolding width_of
+width_wants_lem t f n from p = found_wants t f n from p.end p.kind
 
-  pub width_fixed : p.tag ≤ 1 → 0 ≡ width_wants n p
-  width_fixed h = count_fixed n p h ∙ width_other (λ e. omega (arith, h, e))
-
-  -- and a precision
-  pub precise_dot : p.tag ≡ 5 → 0 ≡ precision_wants n p
-  unfolding precision_wants pick
-  precise_dot e = rw (eq-eqb p.tag 5 e)
-
-  pub precise_other : (p.tag ≡ 5 → ⊥) → width_wants n p ≡ precision_wants n p
-  unfolding precision_wants pick
-  precise_other e = rw (ne_eqb p.tag 5 e)
-
-width_wants_lem : (t : List ℕ) (f : Frame) (n from : ℕ) (p : PartTold) → count_wants (width_of t f n from p) ≡ width_wants n p
-unfolding width_of width_wants pick
-width_wants_lem t f n from p = go (eqb p.tag 4)
-  where
-    go : (b : Bool) →
-        count_wants (pick b (name_of t f from p.end) (count_of n p)) ≡ pick b 0 (count_wants (count_of n p))
-    go true = refl
-    go false = refl
-
-precision_wants_lem : (t : List ℕ) (f : Frame) (n dot : ℕ) (p : PartTold) → count_wants (precision_of t f n dot p) ≡ precision_wants n p
-unfolding precision_of precision_wants pick
-precision_wants_lem t f n dot p = go (eqb p.tag 5)
-  where
-    go : (b : Bool) → count_wants (pick b Count.Implied (width_of t f n (dot + 1) p)) ≡ pick b 0 (width_wants n p)
-    go true = refl
-    go false = width_wants_lem t f n (dot + 1) p
+precision_wants_lem : (t : List ℕ) (f : Frame) (n dot : ℕ) (p : CountPart) → count_wants (precision_of t f n dot p) ≡ kind_wants n p.kind
+unfolding precision_of
+precision_wants_lem t f n dot p = width_wants_lem t f n (dot + 1) p
 
 -- the larger of three in another order
 turned : (a p s : ℕ) → larger a (larger p s) ≡ larger (larger a s) p
@@ -205,10 +134,10 @@ told_wants t f brace n a x = go x.colon
     own at = place_wants (place_of at x.place k)
 
     wide : ℕ
-    wide = width_wants n x.spec.width
+    wide = kind_wants n x.spec.width.kind
 
     precise : ℕ
-    precise = precision_wants n x.spec.precision
+    precise = kind_wants n x.spec.precision.kind
 
     go : (b : Bool) →
         let s : Spec = pick b (spec_of t f (x.to + 1) n x.spec) (no_spec (place x.to) n).spec in

@@ -1,7 +1,7 @@
 -- Steps that are passed: literal text, and a placeholder that is told without a flaw. Rests on Clear and Stepping.
+use Rattle.std.specs.Prelude.{Option, None, Some}
 use Prim.Native.Nat.{ℕ, ◌+◌}
-use mathlib.Core.Path.{◌≡◌, refl, sym, ap, ◌∙◌}
-use mathlib.Core.Bool.{true, false, true≢false}
+use mathlib.Core.Path.{◌≡◌, refl}
 use mathlib.Core.List.{List}
 use Rattle.frame.specs.Places.{place}
 use Rattle.frame.specs.declared.Frame.{Frame}
@@ -17,19 +17,16 @@ use Rattle.laws.specs.MoveLaws.{given_by}
 use Rattle.quick.specs.Tellings.{told_read, Tells}
 use Rattle.quick.specs.declared.PlaceholderTold.{PlaceholderTold}
 use Rattle.passing.specs.After.{told_state}
-use Rattle.passing.specs.Clear.{OpenAt, ClearTold, LiteralFrom, Clear, Passes, PassesText}
+use Rattle.passing.specs.Clear.{OpenAt, ClearTold, LiteralFrom, Clear, PassedStep, PassedText, Passes, PassesText}
 use Rattle.passing.specs.declared.Passed.{Passed}
 use Rattle.passing.proofs.Stepping.{flawless_clean, step_told, told_on}
 
--- A STEP THAT IS NOT PASSED
-pub not_on : {r : Passed} {s : State} → r ≡ record { on = false; state = s; given = 0 } → r.on ≡ false
-not_on e = ap (λ (r : Passed). r.on) e
-
 module _ (t : List ℕ) (f : Frame) (m : Mode) (s : State) where
-  pub stays : {r : Passed} → r.on ≡ false → Passes t f m s r
-  stays o = record { clear = λ y. absurd (true≢false (sym y ∙ o)); given = λ y. absurd (true≢false (sym y ∙ o)) }
+  -- LITERAL TEXT that is passed is a step that is
+  pub text_passes : (r : Option Passed) → PassesText t f m s r → Passes t f m s r
+  text_passes None p = tt
+  text_passes (Some r) p = p.passes
 
-  -- LITERAL TEXT is passed
   module _ {view : TextRange} (step : Step.Literal view ≡ step_at t f m s) where
     pub literal_clear : Clear t f m s (state_of view.end s.next s.arguments)
     unfolding step_slots wrong
@@ -39,23 +36,19 @@ module _ (t : List ℕ) (f : Frame) (m : Mode) (s : State) where
     literal_given = rw (← step) refl
 
   pub literal_passes : {from : ℕ} {e : TextPlace} → LiteralFrom t f m s from → e ≡ text_end t (place from) →
-      PassesText t f m s (record { on = true; state = state_of e s.next s.arguments; given = 0 })
+      PassedText t f m s (record { state = state_of e s.next s.arguments; given = 0 })
   literal_passes l q =
       rw q
       (record {
-        passes = record { clear = λ _. literal_clear l.step; given = λ _. literal_given l.step };
-        view = λ _. _;
-        step = λ _. l.step;
+        passes = record { clear = literal_clear l.step; given = literal_given l.step };
+        view = _;
+        step = l.step;
       })
-
-  -- one that is not passed is no text
-  pub stays_text : {r : Passed} → r.on ≡ false → PassesText t f m s r
-  stays_text o = record { passes = stays o; view = λ y. absurd (true≢false (sym y ∙ o)); step = λ y. absurd (true≢false (sym y ∙ o)) }
 
   -- A PLACEHOLDER in which nothing is wrong is passed
   module _ (o : OpenAt t s.at.0) {x : PlaceholderTold} (l : Tells t (s.at.0 + 1) x) (c : ClearTold m x) where
     pub open_step_lem : Step.Placeholder (told_read t f s.at.0 s.next x) ≡ step_at t f m s
-    open_step_lem = step_told t f m s x o.within o.brace o.alone l c.told c.speaks
+    open_step_lem = step_told t f m s x o.within o.brace o.alone l c.speaks
 
     pub open_clear : {a : State} → a ≡ told_state s x → Clear t f m s a
     unfolding told_read
@@ -70,5 +63,5 @@ module _ (t : List ℕ) (f : Frame) (m : Mode) (s : State) where
     unfolding told_read
     open_given = rw (← open_step_lem) refl
 
-    pub open_passes : {a : State} → a ≡ told_state s x → Passes t f m s (record { on = true; state = a; given = x.spec.given })
-    open_passes q = record { clear = λ _. open_clear q; given = λ _. open_given }
+    pub open_passes : {a : State} → a ≡ told_state s x → PassedStep t f m s (record { state = a; given = x.spec.given })
+    open_passes q = record { clear = open_clear q; given = open_given }

@@ -1,4 +1,5 @@
 -- What the step is, from the bytes there, and what is told of a placeholder as a step. Rests on Clear, After, Afters and quick's Tellings.
+use Rattle.std.specs.Prelude.{Some}
 use Prim.Native.Nat.{ℕ, ◌+◌, ◌≤◌, ◌<◌}
 use mathlib.Core.Path.{◌≡◌, refl, sym, ap, ◌∙◌}
 use mathlib.Core.Bool.{Bool, true, false, true≢false}
@@ -17,7 +18,6 @@ use Rattle.scan.specs.ScanLaws.{is_at_byte, is_at_end, consumed_is, consumed_som
 use Rattle.closing.specs.Wholes.{placeholder_read}
 use Rattle.reading.specs.Faults.{argument_slots, closing_slots, step_slots, wrong}
 use Rattle.reading.specs.Steps.{state_of, after_open, after_close, step_at, onward}
-use Rattle.reading.specs.declared.Onward.{Onward}
 use Rattle.reading.specs.declared.State.{State}
 use Rattle.reading.specs.declared.Step.{Step}
 use Rattle.quick.specs.Tellings.{next_of, blank_flaw, blanks_of, closing_of, told_read, in_mode, Tells, Flawless}
@@ -33,10 +33,10 @@ flawless_clean t f brace n x p = rw (p.closed, p.placed, p.wide, p.typed)
 
 -- and reading goes on after it
 pub told_on : (t : List ℕ) (f : Frame) (s : State) (x : PlaceholderTold) {a : State} → a ≡ told_state s x →
-    onward s (Step.Placeholder (told_read t f s.at.0 s.next x)) ≡ Onward.To a
+    onward s (Step.Placeholder (told_read t f s.at.0 s.next x)) ≡ Some a
 unfolding told_read told_state
 told_on t f s x e =
-    ap Onward.To (ap (λ (w : ℕ). state_of (place x.on) (next_of s.next x) w) (told_wants t f s.at.0 s.next s.arguments x) ∙ sym e)
+    ap Some (ap (λ (w : ℕ). state_of (place x.on) (next_of s.next x) w) (told_wants t f s.at.0 s.next s.arguments x) ∙ sym e)
 
 -- a byte that is not 0 stands within the text
 byte_within : (t : List ℕ) (k : ℕ) → 0 < get_or t k 0 → k < length t
@@ -132,5 +132,5 @@ module _ (t : List ℕ) (f : Frame) (m : Mode) (s : State) where
 
 -- and what is told is that placeholder
 pub step_told : (t : List ℕ) (f : Frame) (m : Mode) (s : State) (x : PlaceholderTold) → s.at.0 < length t → get_or t s.at.0 0 ≡ 0x7B → (get_or t (s.at.0 + 1) 0 ≡ 0x7B → ⊥) →
-    Tells t (s.at.0 + 1) x → x.ok ≡ true → in_mode m x.colon ≡ true → Step.Placeholder (told_read t f s.at.0 s.next x) ≡ step_at t f m s
-step_told t f m s x h e n l y z = sym (ap Step.Placeholder (l.read y m z f s.at.0 s.next refl)) ∙ step_open t f m s h e n
+    Tells t (s.at.0 + 1) x → in_mode m x.colon ≡ true → Step.Placeholder (told_read t f s.at.0 s.next x) ≡ step_at t f m s
+step_told t f m s x h e n l z = sym (ap Step.Placeholder (l.read m z f s.at.0 s.next refl)) ∙ step_open t f m s h e n

@@ -8,17 +8,16 @@ ghost use Rattle.std.specs.Prelude.{◌≡◌, true, false, ◌+◌, ◌<◌, eq
 ghost use Rattle.utf8.specs.Choice.{either};
 ghost use Rattle.frame.specs.Bounds.{Small};
 ghost use Rattle.quick.specs.Tellings.{in_mode, Flawless};
-ghost use Rattle.passing.specs.Clear.{OpenAt, ClearTold, LiteralFrom, Passes, PassesText};
+ghost use Rattle.passing.specs.Clear.{OpenAt, ClearTold, LiteralFrom, Passes, PassedText, PassesText};
 
 use crate::after::after_told;
 use frame::{Frame, Mode, TextPlace};
 use quick::PlaceholderTold;
 use reading::State;
 
-// A step: whether it is passed, where reading then stands, and how many characters it gave back.
+// A step that is passed: where reading then stands, and how many characters it gave back.
 #[derive(Clone, Copy)]
 pub struct Passed {
-    pub on: bool,
     pub state: State,
     pub given: usize,
 }
@@ -30,17 +29,6 @@ fn is_brace(b: u8) -> bool
         return true;
     }
     b == b'}'
-}
-
-// A step that is not passed.
-pub fn stay(state: State) -> Passed
-    ensures { result ≡ record { on = false; state = state; given = 0 } }
-{
-    Passed {
-        on: false,
-        state,
-        given: 0,
-    }
 }
 
 // Whether what is told holds in a mode: a spec is told as Format mode reads it, and without one a placeholder is read alike in each.
@@ -58,33 +46,14 @@ pub fn speaks(mode: Mode, colon: bool) -> bool
 pub fn is_flawless(told: PlaceholderTold) -> bool
     ensures { result ≡ true → Flawless told }
 {
-    let place = told.place;
-    if place.blank {
-        return false;
-    }
-    let spec = told.spec;
-    let width = spec.width;
-    if width.blank {
-        return false;
-    }
-    let typed = spec.typed;
-    if typed.blank {
-        return false;
-    }
-    told.closed
+    told.closed && !told.place.blank && !told.spec.width.blank && !told.spec.typed.blank
 }
 
-// Whether a placeholder is told, as a mode reads it, and nothing is wrong in it.
+// Whether what is told holds in a mode, and nothing is wrong in it.
 pub fn told_clear(mode: Mode, told: PlaceholderTold) -> bool
     ensures { result ≡ true → ClearTold mode told }
 {
-    if !told.ok {
-        return false;
-    }
-    if !speaks(mode, told.colon) {
-        return false;
-    }
-    is_flawless(told)
+    speaks(mode, told.colon) && is_flawless(told)
 }
 
 // Whether a placeholder starts at a byte of the text: an opening brace, and not two.
@@ -92,36 +61,30 @@ pub fn is_open(text: &[u8], at: usize) -> bool
     requires { at < length text.now }
     ensures { result ≡ true → OpenAt text.now at }
 {
-    if text[at] == b'{' {
-        return utf8::byte(text, at + 1) != b'{';
-    }
-    false
+    text[at] == b'{' && utf8::byte(text, at + 1) != b'{'
 }
 
 // The step at an opening brace that is not doubled.
-fn pass_open(text: &[u8], frame: Frame, mode: Mode, state: State) -> Passed
+fn pass_open(text: &[u8], frame: Frame, mode: Mode, state: State) -> Option<Passed>
     requires { Small text.now frame × (state.next < 0xFFFFE) × OpenAt text.now state.at.0 }
     ensures { Passes text.now frame mode state result }
 {
-    let told = quick::clear::tell_closed(text, state.at.0 + 1);
+    let told = quick::clear::tell_closed(text, state.at.0 + 1)?;
     if !told_clear(mode, told) {
-        return stay(state);
+        return None;
     }
-    let spec = told.spec;
-    Passed {
-        on: true,
+    Some(Passed {
         state: after_told(state, told),
-        given: spec.given,
-    }
+        given: told.spec.given,
+    })
 }
 
 // The step that is literal text, whose plain characters run on from `from`: its start, or behind a doubled brace. The frame and the mode are there for what is promised: they say which step it is.
 fn pass_literal(text: &[u8], frame: Frame, mode: Mode, state: State, from: usize) -> Passed
     requires { LiteralFrom text.now frame mode state from }
-    ensures { PassesText text.now frame mode state result }
+    ensures { PassedText text.now frame mode state result }
 {
     Passed {
-        on: true,
         state: State {
             at: scan::string_end(utf8::whole(text), TextPlace(from)),
             next: state.next,
@@ -132,7 +95,7 @@ fn pass_literal(text: &[u8], frame: Frame, mode: Mode, state: State, from: usize
 }
 
 // The step where reading stands, if it is literal text: a doubled brace, or any character that is none.
-pub fn pass_text(text: &[u8], frame: Frame, mode: Mode, state: State) -> Passed
+pub fn pass_text(text: &[u8], frame: Frame, mode: Mode, state: State) -> Option<Passed>
     requires { Small text.now frame × (state.at.0 < length text.now) }
     ensures { PassesText text.now frame mode state result }
 {
@@ -140,21 +103,21 @@ pub fn pass_text(text: &[u8], frame: Frame, mode: Mode, state: State) -> Passed
     let b = text[i];
     if is_brace(b) {
         if utf8::byte(text, i + 1) != b {
-            return stay(state);
+            return None;
         }
-        return pass_literal(text, frame, mode, state, i + 2);
+        return Some(pass_literal(text, frame, mode, state, i + 2));
     }
-    pass_literal(text, frame, mode, state, i)
+    Some(pass_literal(text, frame, mode, state, i))
 }
 
 // The step where reading stands.
-pub fn pass(text: &[u8], frame: Frame, mode: Mode, state: State) -> Passed
+pub fn pass(text: &[u8], frame: Frame, mode: Mode, state: State) -> Option<Passed>
     requires { Small text.now frame × (state.next < 0xFFFFE) }
     ensures { Passes text.now frame mode state result }
 {
     let i = state.at.0;
     if text.len() <= i {
-        return stay(state);
+        return None;
     }
     if is_open(text, i) {
         return pass_open(text, frame, mode, state);

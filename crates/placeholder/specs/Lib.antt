@@ -1,4 +1,5 @@
 -- Definitions of what stands between the braces, and bounds of it.
+pub mod Filling
 pub mod Places
 pub mod Parts
 pub mod Types

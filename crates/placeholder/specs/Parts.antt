@@ -1,15 +1,13 @@
 -- The parts of a Format spec but its type: fill, align, sign, `0`, width, precision. "Each part optional and in this order."
-use Rattle.std.specs.Prelude.{ℕ, ◌+◌, Bool, true, false, List}
+use Rattle.std.specs.Prelude.{ℕ, ◌+◌, Bool, true, false, List, Some, None, Option}
 use Prim.Native.Char.{code}
 use Rattle.utf8.specs.Choice.{pick}
 use Rattle.utf8.specs.Utf8.{peek_at}
-use Rattle.utf8.specs.declared.Seen.{Seen}
-use Rattle.utf8.specs.declared.Seen.TheVariants.{Char, End}
 use Rattle.frame.specs.Places.{place}
 use Rattle.frame.specs.Spans.{span_between}
 use Rattle.frame.specs.declared.TextPlace.{TextPlace}
-use Rattle.frame.specs.declared.Span.{Span}
 use Rattle.frame.specs.declared.Frame.{Frame}
+use Rattle.frame.specs.declared.Span.{Span}
 use Rattle.scan.specs.Characters.{is_at, consumed}
 use Rattle.scan.specs.Ends.{span_across}
 use Rattle.scan.specs.Counts.{count_read}
@@ -18,25 +16,24 @@ use Rattle.scan.specs.declared.Numeral.{Numeral}
 use Rattle.scan.specs.declared.Count.{Count}
 use Rattle.scan.specs.declared.CountRead.{CountRead}
 use Rattle.placeholder.specs.declared.Align.{Align}
-use Rattle.placeholder.specs.declared.Fill.{Fill}
-use Rattle.placeholder.specs.declared.MaybeSpan.{MaybeSpan}
 use Rattle.placeholder.specs.declared.Sign.{Sign}
 use Rattle.placeholder.specs.declared.format.FillRead.{FillRead}
 use Rattle.placeholder.specs.declared.format.AlignRead.{AlignRead}
 use Rattle.placeholder.specs.declared.format.SignRead.{SignRead}
 use Rattle.placeholder.specs.declared.format.WidthRead.{WidthRead}
 use Rattle.placeholder.specs.declared.format.PrecisionRead.{PrecisionRead}
+use Rattle.utf8.specs.declared.Char.{Char}
 
 -- "an align of `<`, `>`, `^`" (R3.8)
 unfoldable pub is_align : List ℕ → TextPlace → Bool
 is_align t at = pick (is_at t at (code "<")) true (pick (is_at t at (code ">")) true (is_at t at (code "^")))
 
-abbrev pub fill_seen : List ℕ → Frame → TextPlace → Seen → FillRead
-fill_seen t f at End = record { fill = Fill.Absent; at = at }
-fill_seen t f at (Char c w) =
-    pick (is_align t (place (at.0 + w)))
-    (record { fill = Fill.Present c (span_across t f at at); at = place (at.0 + w) })
-    (record { fill = Fill.Absent; at = at })
+abbrev pub fill_seen : List ℕ → Frame → TextPlace → Option Char → FillRead
+fill_seen t f at None = record { fill = None; at = at }
+fill_seen t f at (Some seen) =
+    pick (is_align t (place (at.0 + seen.width)))
+    (record { fill = Some (record { code = seen.code; span = span_across t f at at }); at = place (at.0 + seen.width) })
+    (record { fill = None; at = at })
 
 -- choice 1: "if the second character after the colon is an align, the first is the fill, even a brace" (R4.13)
 unfoldable pub fill_read : List ℕ → Frame → TextPlace → FillRead
@@ -76,7 +73,7 @@ width_after t f zero at r =
     record {
       zero = zero;
       width = r.count;
-      span = pick (is_implied r.count) MaybeSpan.Absent (MaybeSpan.Present (span_between t f at r.at));
+      span = pick (is_implied r.count) None (Some (span_between t f at r.at));
       at = r.at;
       flaw = r.flaw;
       given = r.given;
@@ -92,7 +89,7 @@ zero_argument span at =
     record {
       zero = false;
       width = Count.ByArgument (Numeral.Within 0);
-      span = MaybeSpan.Present span;
+      span = Some span;
       at = at;
       flaw = Flaw.Clean;
       given = 0;
@@ -112,7 +109,7 @@ abbrev pub precise : List ℕ → Frame → TextPlace → Count → TextPlace �
 precise t f dot count at n x given =
     record {
       precision = count;
-      span = MaybeSpan.Present (span_between t f dot at);
+      span = Some (span_between t f dot at);
       at = at;
       next = n;
       flaw = x;
@@ -135,7 +132,7 @@ precision_read t f at n =
     pick dot.ate (after_dot t f at dot.at n)
     (record {
       precision = Count.Implied;
-      span = MaybeSpan.Absent;
+      span = None;
       at = at;
       next = n;
       flaw = Flaw.Clean;

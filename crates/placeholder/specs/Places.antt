@@ -1,5 +1,5 @@
 -- The place of an argument: "A place is a number, a word, or nothing."
-use Rattle.std.specs.Prelude.{Bool, false, List, ℕ, eqb}
+use Rattle.std.specs.Prelude.{Bool, false, List, ℕ, eqb, Option, Some, None}
 use Prim.Native.Char.{code}
 use Rattle.utf8.specs.Choice.{pick}
 use Rattle.frame.specs.Places.{range_of}
@@ -9,11 +9,11 @@ use Rattle.scan.specs.Characters.{consumed}
 use Rattle.scan.specs.Words.{word_read, number_read}
 use Rattle.scan.specs.Counts.{is_empty}
 use Rattle.scan.specs.declared.Flaw.{Flaw}
-use Rattle.scan.specs.declared.Number.{Number}
 use Rattle.scan.specs.declared.NumberRead.{NumberRead}
 use Rattle.scan.specs.declared.WordRead.{WordRead}
 use Rattle.placeholder.specs.declared.position.Found.{Found}
 use Rattle.placeholder.specs.declared.position.PlaceRead.{PlaceRead}
+use Rattle.scan.specs.declared.Numeral.{Numeral}
 
 abbrev pub placed : Found → TextPlace → Flaw → Flaw → PlaceRead
 placed x at flaw raw = record { found = x; at = at; flaw = flaw; raw = raw }
@@ -47,9 +47,9 @@ word_after t at w =
 unfoldable pub word_place : List ℕ → TextPlace → PlaceRead
 word_place t at = word_after t at (word_read t at)
 
-abbrev pub place_after : List ℕ → TextPlace → NumberRead → Number → PlaceRead
-place_after t at r (Number.Given n) = placed (Found.Number n) r.digits.end r.flaw Flaw.Clean
-place_after t at r Number.Nothing = word_place t at
+abbrev pub place_after : List ℕ → TextPlace → NumberRead → Option Numeral → PlaceRead
+place_after t at r (Some n) = placed (Found.Number n) r.digits.end r.flaw Flaw.Clean
+place_after t at r None = word_place t at
 
 -- the place of an argument at a place of the text (R5.4)
 unfoldable pub place_read : List ℕ → TextPlace → PlaceRead

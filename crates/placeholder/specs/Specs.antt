@@ -1,5 +1,5 @@
 -- The spec of each mode, with the colon before it.
-use Rattle.std.specs.Prelude.{ℕ, false, List}
+use Rattle.std.specs.Prelude.{ℕ, false, List, Some, None}
 use Prim.Native.Char.{code}
 use Rattle.utf8.specs.Choice.{pick}
 use Rattle.frame.specs.Places.{range_of}
@@ -12,9 +12,7 @@ use Rattle.scan.specs.declared.Count.{Count}
 use Rattle.placeholder.specs.Types.{word_type}
 use Rattle.placeholder.specs.Format.{format_read}
 use Rattle.placeholder.specs.declared.Align.{Align}
-use Rattle.placeholder.specs.declared.Fill.{Fill}
 use Rattle.placeholder.specs.declared.Hex.{Hex}
-use Rattle.placeholder.specs.declared.MaybeSpan.{MaybeSpan}
 use Rattle.frame.specs.declared.Mode.{Mode}
 use Rattle.placeholder.specs.declared.Sign.{Sign}
 use Rattle.placeholder.specs.declared.format.TypeRead.{TypeRead}
@@ -26,16 +24,16 @@ type_only ty n =
     record {
       spec =
           record {
-            fill = Fill.Absent;
+            fill = None;
             align = Align.Unknown;
             sign = Sign.Absent;
             alternate = false;
             zero = false;
             hex = ty.hex;
             width = Count.Implied;
-            widthspan = MaybeSpan.Absent;
+            widthspan = None;
             precision = Count.Implied;
-            precisionspan = MaybeSpan.Absent;
+            precisionspan = None;
             typetext = ty.typetext;
             typespan = ty.span;
           };
@@ -54,7 +52,7 @@ no_spec at n =
     (record {
       hex = Hex.Absent;
       typetext = range_of at at;
-      span = MaybeSpan.Absent;
+      span = None;
       at = at;
       flaw = Flaw.Clean;
     })
@@ -66,7 +64,7 @@ diagnostic_type t f colon at =
     record {
       hex = Hex.Absent;
       typetext = range_of at (text_end t at);
-      span = MaybeSpan.Present (span_between t f colon (text_end t at));
+      span = Some (span_between t f colon (text_end t at));
       at = text_end t at;
       flaw = Flaw.Clean;
     }

@@ -1,5 +1,5 @@
 -- The type of a Format spec: "`?`, `x?`, `X?`, `x`, `X`, or a word not starting with x or X."
-use Rattle.std.specs.Prelude.{ℕ, Bool, true, List}
+use Rattle.std.specs.Prelude.{ℕ, Bool, true, List, Some, None}
 use Prim.Native.Char.{code}
 use Rattle.utf8.specs.Choice.{pick}
 use Rattle.frame.specs.Places.{range_of}
@@ -13,7 +13,6 @@ use Rattle.scan.specs.Counts.{is_empty}
 use Rattle.scan.specs.declared.Flaw.{Flaw}
 use Rattle.scan.specs.declared.WordRead.{WordRead}
 use Rattle.placeholder.specs.declared.Hex.{Hex}
-use Rattle.placeholder.specs.declared.MaybeSpan.{MaybeSpan}
 use Rattle.placeholder.specs.declared.format.TypeRead.{TypeRead}
 
 -- a type that has no span: `?`, `x`, `X`, `x?`, `X?`
@@ -22,7 +21,7 @@ sign_type h r at x =
     record {
       hex = h;
       typetext = r;
-      span = MaybeSpan.Absent;
+      span = None;
       at = at;
       flaw = x;
     }
@@ -47,7 +46,7 @@ type_after t f at w =
     record {
       hex = Hex.Absent;
       typetext = w.word;
-      span = pick (is_empty w.word) MaybeSpan.Absent (MaybeSpan.Present (span_between t f at w.word.end));
+      span = pick (is_empty w.word) None (Some (span_between t f at w.word.end));
       at = w.word.end;
       flaw = w.flaw;
     }

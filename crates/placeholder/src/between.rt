@@ -55,35 +55,23 @@ pub fn argument(text: &[u8], frame: Frame, mode: Mode, at: TextPlace, next: usiz
     ensures { result ≡ argument_read text.now frame mode at next }
 {
     let placed = crate::position::position(text, at);
-    let found = placed.found;
-    let placeflaw = placed.flaw;
-    let rawflaw = placed.raw;
-    let end = placed.at;
-    let to = scan::ws(text, end);
+    let to = scan::ws(text, placed.at);
     let read = crate::modes::spec(text, frame, mode, to, next);
-    let spec = read.spec;
-    let widthflaw = read.width;
-    let precisionflaw = read.precision;
-    let typeflaw = read.typetext;
-    let stars = read.next;
-    let past = read.at;
-    let counted = resolve(found, stars);
-    let place = counted.place;
-    let flaws = ArgumentFlaws {
-        place: placeflaw,
-        raw: rawflaw,
-        width: widthflaw,
-        precision: precisionflaw,
-        typetext: typeflaw,
-    };
+    let counted = resolve(placed.found, read.next);
     ArgumentRead {
-        place,
+        place: counted.place,
         from: at,
         to,
-        spec,
-        at: past,
+        spec: read.spec,
+        at: read.at,
         next: counted.next,
-        flaws,
+        flaws: ArgumentFlaws {
+            place: placed.flaw,
+            raw: placed.raw,
+            width: read.width,
+            precision: read.precision,
+            typetext: read.typetext,
+        },
         given: read.given,
     }
 }

@@ -2,17 +2,16 @@
 ghost use Rattle.std.specs.Prelude.{◌≡◌, ◌<◌};
 ghost use Rattle.frame.specs.Bounds.{Small};
 ghost use Rattle.placeholder.specs.Parts.{is_align, fill_read, align_read, sign_read, is_implied, plain_width, width_read, after_dot, precision_read};
-ghost use Rattle.placeholder.specs.Types.{hex_type, is_hex_or_hash, debug_type, word_type, type_read};
+ghost use Rattle.placeholder.specs.Types.{sign_type, hex_type, is_hex_or_hash, debug_type, word_type, type_read};
 ghost use Rattle.placeholder.specs.Format.{format_read};
 
-use crate::{Align, Fill, Hex, MaybeSpan, Sign, Spec};
-use frame::{Frame, TextPlace, TextRange};
+use crate::{Align, Fill, Hex, Sign, Spec};
+use frame::{Frame, Span, TextPlace, TextRange};
 use scan::{Count, Flaw, Numeral};
-use utf8::Seen;
 
 #[derive(Clone, Copy)]
 pub struct FillRead {
-    pub fill: Fill,
+    pub fill: Option<Fill>,
     pub at: TextPlace,
 }
 
@@ -32,7 +31,7 @@ pub struct SignRead {
 pub struct WidthRead {
     pub zero: bool,
     pub width: Count,
-    pub span: MaybeSpan,
+    pub span: Option<Span>,
     pub at: TextPlace,
     pub flaw: Flaw,
     pub given: usize,
@@ -41,7 +40,7 @@ pub struct WidthRead {
 #[derive(Clone, Copy)]
 pub struct PrecisionRead {
     pub precision: Count,
-    pub span: MaybeSpan,
+    pub span: Option<Span>,
     pub at: TextPlace,
     pub next: usize,
     pub flaw: Flaw,
@@ -52,7 +51,7 @@ pub struct PrecisionRead {
 pub struct TypeRead {
     pub hex: Hex,
     pub typetext: TextRange,
-    pub span: MaybeSpan,
+    pub span: Option<Span>,
     pub at: TextPlace,
     pub flaw: Flaw,
 }
@@ -73,13 +72,7 @@ pub struct SpecRead {
 pub fn is_align(text: &[u8], at: TextPlace) -> bool
     ensures { result ≡ is_align text.now at }
 {
-    if scan::peek_is(text, at, b'<') {
-        return true;
-    }
-    if scan::peek_is(text, at, b'>') {
-        return true;
-    }
-    scan::peek_is(text, at, b'^')
+    scan::peek_is(text, at, b'<') || scan::peek_is(text, at, b'>') || scan::peek_is(text, at, b'^')
 }
 
 // The fill: any character, a brace too, that an align follows directly.
@@ -87,54 +80,44 @@ fn read_fill(text: &[u8], frame: Frame, at: TextPlace) -> FillRead
     requires { Small text.now frame }
     ensures { result ≡ fill_read text.now frame at }
 {
-    let i = at.0;
-    match utf8::peek(text, i) {
-        Seen::Char { code, width } => {
-            let past = TextPlace(i + width);
-            if is_align(text, past) {
-                let span = scan::span_across(text, frame, at, at);
-                return FillRead {
-                    fill: Fill::Present(code, span),
-                    at: past,
-                };
-            }
-            FillRead {
-                fill: Fill::Absent,
-                at,
-            }
+    if let Some(seen) = utf8::peek(text, at.0) {
+        let past = TextPlace(at.0 + seen.width);
+        if is_align(text, past) {
+            let span = scan::span_across(text, frame, at, at);
+            return FillRead {
+                fill: Some(Fill {
+                    code: seen.code,
+                    span,
+                }),
+                at: past,
+            };
         }
-        Seen::End => FillRead {
-            fill: Fill::Absent,
-            at,
-        },
     }
+    FillRead { fill: None, at }
 }
 
 pub fn read_align(text: &[u8], at: TextPlace) -> AlignRead
     ensures { result ≡ align_read text.now at }
 {
     let left = scan::consume(text, at, b'<');
-    let end = left.at;
     if left.ate {
         return AlignRead {
             align: Align::Left,
-            at: end,
+            at: left.at,
         };
     }
     let right = scan::consume(text, at, b'>');
-    let end = right.at;
     if right.ate {
         return AlignRead {
             align: Align::Right,
-            at: end,
+            at: right.at,
         };
     }
     let center = scan::consume(text, at, b'^');
-    let end = center.at;
     if center.ate {
         return AlignRead {
             align: Align::Center,
-            at: end,
+            at: center.at,
         };
     }
     AlignRead {
@@ -147,19 +130,17 @@ pub fn read_sign(text: &[u8], at: TextPlace) -> SignRead
     ensures { result ≡ sign_read text.now at }
 {
     let plus = scan::consume(text, at, b'+');
-    let end = plus.at;
     if plus.ate {
         return SignRead {
             sign: Sign::Plus,
-            at: end,
+            at: plus.at,
         };
     }
     let minus = scan::consume(text, at, b'-');
-    let end = minus.at;
     if minus.ate {
         return SignRead {
             sign: Sign::Minus,
-            at: end,
+            at: minus.at,
         };
     }
     SignRead {
@@ -171,13 +152,7 @@ pub fn read_sign(text: &[u8], at: TextPlace) -> SignRead
 pub fn is_implied(count: Count) -> bool
     ensures { result ≡ is_implied count }
 {
-    match count {
-        Count::Implied => true,
-        Count::Fixed(_) => false,
-        Count::ByName(_, _) => false,
-        Count::ByArgument(_) => false,
-        Count::ByStar(_) => false,
-    }
+    matches!(count, Count::Implied)
 }
 
 // A width that is a count, with the `0` flag beside it.
@@ -186,26 +161,17 @@ fn plain_width(text: &[u8], frame: Frame, zero: bool, at: TextPlace) -> WidthRea
     ensures { result ≡ plain_width text.now frame zero at }
 {
     let read = scan::count_at(text, frame, at);
-    let width = read.count;
-    let end = read.at;
-    let flaw = read.flaw;
-    if is_implied(width) {
-        return WidthRead {
-            zero,
-            width,
-            span: MaybeSpan::Absent,
-            at: end,
-            flaw,
-            given: read.given,
-        };
-    }
-    let span = frame::span_between(text, frame, at, end);
+    let span = if is_implied(read.count) {
+        None
+    } else {
+        Some(frame::span_between(text, frame, at, read.at))
+    };
     WidthRead {
         zero,
-        width,
-        span: MaybeSpan::Present(span),
-        at: end,
-        flaw,
+        width: read.count,
+        span,
+        at: read.at,
+        flaw: read.flaw,
         given: read.given,
     }
 }
@@ -216,24 +182,21 @@ fn read_width(text: &[u8], frame: Frame, at: TextPlace) -> WidthRead
     ensures { result ≡ width_read text.now frame at }
 {
     let zero = scan::consume(text, at, b'0');
-    let past = zero.at;
-    if zero.ate {
-        let dollar = scan::consume(text, past, b'$');
-        let end = dollar.at;
-        if dollar.ate {
-            let span = scan::span_across(text, frame, at, past);
-            return WidthRead {
-                zero: false,
-                width: Count::ByArgument(Numeral::Within(0)),
-                span: MaybeSpan::Present(span),
-                at: end,
-                flaw: Flaw::Clean,
-                given: 0,
-            };
-        }
-        return plain_width(text, frame, true, past);
+    if !zero.ate {
+        return plain_width(text, frame, false, at);
     }
-    plain_width(text, frame, false, at)
+    let dollar = scan::consume(text, zero.at, b'$');
+    if dollar.ate {
+        return WidthRead {
+            zero: false,
+            width: Count::ByArgument(Numeral::Within(0)),
+            span: Some(scan::span_across(text, frame, at, zero.at)),
+            at: dollar.at,
+            flaw: Flaw::Clean,
+            given: 0,
+        };
+    }
+    plain_width(text, frame, true, zero.at)
 }
 
 // What stands after the dot at `dot`: a star, which takes the next argument, or a count.
@@ -242,29 +205,23 @@ fn after_dot(text: &[u8], frame: Frame, dot: TextPlace, at: TextPlace, next: usi
     ensures { result ≡ after_dot text.now frame dot at next }
 {
     let star = scan::consume(text, at, b'*');
-    let end = star.at;
     if star.ate {
-        let span = frame::span_between(text, frame, dot, end);
         return PrecisionRead {
             precision: Count::ByStar(next),
-            span: MaybeSpan::Present(span),
-            at: end,
+            span: Some(frame::span_between(text, frame, dot, star.at)),
+            at: star.at,
             next: next + 1,
             flaw: Flaw::Clean,
             given: 0,
         };
     }
     let read = scan::count_at(text, frame, at);
-    let precision = read.count;
-    let end = read.at;
-    let flaw = read.flaw;
-    let span = frame::span_between(text, frame, dot, end);
     PrecisionRead {
-        precision,
-        span: MaybeSpan::Present(span),
-        at: end,
+        precision: read.count,
+        span: Some(frame::span_between(text, frame, dot, read.at)),
+        at: read.at,
         next,
-        flaw,
+        flaw: read.flaw,
         given: read.given,
     }
 }
@@ -274,17 +231,29 @@ fn read_precision(text: &[u8], frame: Frame, at: TextPlace, next: usize) -> Prec
     ensures { result ≡ precision_read text.now frame at next }
 {
     let dot = scan::consume(text, at, b'.');
-    let past = dot.at;
     if dot.ate {
-        return after_dot(text, frame, at, past, next);
+        return after_dot(text, frame, at, dot.at, next);
     }
     PrecisionRead {
         precision: Count::Implied,
-        span: MaybeSpan::Absent,
+        span: None,
         at,
         next,
         flaw: Flaw::Clean,
         given: 0,
+    }
+}
+
+// A type that has no span: `?`, `x`, `X`, `x?`, `X?`, or none. Reading goes on where it ends.
+pub(crate) fn sign_type(hex: Hex, typetext: TextRange, flaw: Flaw) -> TypeRead
+    ensures { result ≡ sign_type hex typetext typetext.end flaw }
+{
+    TypeRead {
+        hex,
+        typetext,
+        span: None,
+        at: typetext.end,
+        flaw,
     }
 }
 
@@ -293,65 +262,41 @@ fn hex_type(text: &[u8], hex: Hex, from: TextPlace, at: TextPlace) -> TypeRead
     ensures { result ≡ hex_type text.now hex from at }
 {
     let debug = scan::consume(text, at, b'?');
-    let end = debug.at;
     if debug.ate {
-        return TypeRead {
-            hex,
-            typetext: TextRange { start: at, end },
-            span: MaybeSpan::Absent,
-            at: end,
-            flaw: Flaw::Clean,
+        let both = TextRange {
+            start: at,
+            end: debug.at,
         };
+        return sign_type(hex, both, Flaw::Clean);
     }
-    TypeRead {
-        hex: Hex::Absent,
-        typetext: TextRange {
-            start: from,
-            end: at,
-        },
-        span: MaybeSpan::Absent,
-        at,
-        flaw: Flaw::Clean,
-    }
+    let alone = TextRange {
+        start: from,
+        end: at,
+    };
+    sign_type(Hex::Absent, alone, Flaw::Clean)
 }
 
 // Whether a `#`, `x` or `X` stands at a place.
 fn is_hex_or_hash(text: &[u8], at: TextPlace) -> bool
     ensures { result ≡ is_hex_or_hash text.now at }
 {
-    if scan::peek_is(text, at, b'#') {
-        return true;
-    }
-    if scan::peek_is(text, at, b'x') {
-        return true;
-    }
-    scan::peek_is(text, at, b'X')
+    scan::peek_is(text, at, b'#') || scan::peek_is(text, at, b'x') || scan::peek_is(text, at, b'X')
 }
 
 // After a `?` that stands at `from`: a sign of the wrong order is a flaw, and is not passed.
 fn debug_type(text: &[u8], from: TextPlace, at: TextPlace) -> TypeRead
     ensures { result ≡ debug_type text.now from at }
 {
+    let flaw = if is_hex_or_hash(text, at) {
+        Flaw::AfterDebug(from)
+    } else {
+        Flaw::Clean
+    };
     let typetext = TextRange {
         start: from,
         end: at,
     };
-    if is_hex_or_hash(text, at) {
-        return TypeRead {
-            hex: Hex::Absent,
-            typetext,
-            span: MaybeSpan::Absent,
-            at,
-            flaw: Flaw::AfterDebug(from),
-        };
-    }
-    TypeRead {
-        hex: Hex::Absent,
-        typetext,
-        span: MaybeSpan::Absent,
-        at,
-        flaw: Flaw::Clean,
-    }
+    sign_type(Hex::Absent, typetext, flaw)
 }
 
 // A type that is a word, or none.
@@ -360,25 +305,18 @@ pub fn word_type(text: &[u8], frame: Frame, at: TextPlace) -> TypeRead
     ensures { result ≡ word_type text.now frame at }
 {
     let read = scan::word(text, at);
-    let typetext = read.word;
-    let flaw = read.flaw;
-    let end = typetext.end;
-    if scan::is_empty(typetext) {
-        return TypeRead {
-            hex: Hex::Absent,
-            typetext,
-            span: MaybeSpan::Absent,
-            at: end,
-            flaw,
-        };
-    }
-    let span = frame::span_between(text, frame, at, end);
+    let end = read.word.end;
+    let span = if scan::is_empty(read.word) {
+        None
+    } else {
+        Some(frame::span_between(text, frame, at, end))
+    };
     TypeRead {
         hex: Hex::Absent,
-        typetext,
-        span: MaybeSpan::Present(span),
+        typetext: read.word,
+        span,
         at: end,
-        flaw,
+        flaw: read.flaw,
     }
 }
 
@@ -387,19 +325,16 @@ fn read_type(text: &[u8], frame: Frame, at: TextPlace) -> TypeRead
     ensures { result ≡ type_read text.now frame at }
 {
     let lower = scan::consume(text, at, b'x');
-    let end = lower.at;
     if lower.ate {
-        return hex_type(text, Hex::Lower, at, end);
+        return hex_type(text, Hex::Lower, at, lower.at);
     }
     let upper = scan::consume(text, at, b'X');
-    let end = upper.at;
     if upper.ate {
-        return hex_type(text, Hex::Upper, at, end);
+        return hex_type(text, Hex::Upper, at, upper.at);
     }
     let debug = scan::consume(text, at, b'?');
-    let end = debug.at;
     if debug.ate {
-        return debug_type(text, at, end);
+        return debug_type(text, at, debug.at);
     }
     word_type(text, frame, at)
 }
@@ -410,53 +345,32 @@ pub fn format(text: &[u8], frame: Frame, at: TextPlace, next: usize) -> SpecRead
     ensures { result ≡ format_read text.now frame at next }
 {
     let filling = read_fill(text, frame, at);
-    let fill = filling.fill;
-    let at = filling.at;
-    let aligning = read_align(text, at);
-    let align = aligning.align;
-    let at = aligning.at;
-    let signing = read_sign(text, at);
-    let sign = signing.sign;
-    let at = signing.at;
-    let hash = scan::consume(text, at, b'#');
-    let at = hash.at;
-    let wide = read_width(text, frame, at);
-    let width = wide.width;
-    let widthspan = wide.span;
-    let widthflaw = wide.flaw;
-    let at = wide.at;
-    let precise = read_precision(text, frame, at, next);
-    let precision = precise.precision;
-    let precisionspan = precise.span;
-    let precisionflaw = precise.flaw;
-    let at = precise.at;
-    let typed = read_type(text, frame, at);
-    let hex = typed.hex;
-    let typetext = typed.typetext;
-    let typespan = typed.span;
-    let typeflaw = typed.flaw;
-    let at = typed.at;
-    let spec = Spec {
-        fill,
-        align,
-        sign,
-        alternate: hash.ate,
-        zero: wide.zero,
-        hex,
-        width,
-        widthspan,
-        precision,
-        precisionspan,
-        typetext,
-        typespan,
-    };
+    let aligning = read_align(text, filling.at);
+    let signing = read_sign(text, aligning.at);
+    let hash = scan::consume(text, signing.at, b'#');
+    let wide = read_width(text, frame, hash.at);
+    let precise = read_precision(text, frame, wide.at, next);
+    let typed = read_type(text, frame, precise.at);
     SpecRead {
-        spec,
-        at,
+        spec: Spec {
+            fill: filling.fill,
+            align: aligning.align,
+            sign: signing.sign,
+            alternate: hash.ate,
+            zero: wide.zero,
+            hex: typed.hex,
+            width: wide.width,
+            widthspan: wide.span,
+            precision: precise.precision,
+            precisionspan: precise.span,
+            typetext: typed.typetext,
+            typespan: typed.span,
+        },
+        at: typed.at,
         next: precise.next,
-        width: widthflaw,
-        precision: precisionflaw,
-        typetext: typeflaw,
+        width: wide.flaw,
+        precision: precise.flaw,
+        typetext: typed.flaw,
         given: wide.given + precise.given,
     }
 }

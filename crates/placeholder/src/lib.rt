@@ -17,19 +17,14 @@ pub enum Place {
     Named(TextRange),
 }
 
-#[derive(Clone, Copy)]
-pub enum MaybeSpan {
-    Absent,
-    Present(Span),
-}
-
 // The fill character's code, and its span.
 #[derive(Clone, Copy)]
-pub enum Fill {
-    Absent,
-    Present(u32, Span),
+pub struct Fill {
+    pub code: u32,
+    pub span: Span,
 }
 
+// `Unknown`: none is written, as the Rust calls it.
 #[derive(Clone, Copy)]
 pub enum Align {
     Unknown,
@@ -38,6 +33,7 @@ pub enum Align {
     Center,
 }
 
+// Three cases, no Option of two: they have the numbers 0, 1 and 2 of the layout (`sign_of` in words), and one match tells them.
 #[derive(Clone, Copy)]
 pub enum Sign {
     Absent,
@@ -45,7 +41,7 @@ pub enum Sign {
     Minus,
 }
 
-// The `x` of `x?`, or the `X` of `X?`.
+// The `x` of `x?`, or the `X` of `X?`; three cases, as of a sign.
 #[derive(Clone, Copy)]
 pub enum Hex {
     Absent,
@@ -56,19 +52,19 @@ pub enum Hex {
 // How an argument is to be written.
 #[derive(Clone, Copy)]
 pub struct Spec {
-    pub fill: Fill,
+    pub fill: Option<Fill>,
     pub align: Align,
     pub sign: Sign,
     pub alternate: bool,
     pub zero: bool,
     pub hex: Hex,
     pub width: Count,
-    pub widthspan: MaybeSpan,
+    pub widthspan: Option<Span>,
     pub precision: Count,
-    pub precisionspan: MaybeSpan,
+    pub precisionspan: Option<Span>,
     // The type's text, empty where none stands.
     pub typetext: TextRange,
-    pub typespan: MaybeSpan,
+    pub typespan: Option<Span>,
 }
 
 // A placeholder's record.

@@ -3,8 +3,8 @@ ghost use Rattle.std.specs.Prelude.{◌≡◌, ◌<◌};
 ghost use Rattle.frame.specs.Bounds.{Small};
 ghost use Rattle.placeholder.specs.Specs.{type_only, no_spec, diagnostic_type, after_colon, spec_read};
 
-use crate::format::{SpecRead, TypeRead};
-use crate::{Align, Fill, Hex, MaybeSpan, Sign, Spec};
+use crate::format::{SpecRead, TypeRead, sign_type};
+use crate::{Align, Fill, Hex, Sign, Spec};
 use frame::{Frame, Mode, TextPlace, TextRange};
 use scan::{Count, Flaw};
 
@@ -12,32 +12,26 @@ use scan::{Count, Flaw};
 fn type_only(typed: TypeRead, next: usize) -> SpecRead
     ensures { result ≡ type_only typed next }
 {
-    let hex = typed.hex;
-    let typetext = typed.typetext;
-    let typespan = typed.span;
-    let flaw = typed.flaw;
-    let at = typed.at;
-    let spec = Spec {
-        fill: Fill::Absent,
-        align: Align::Unknown,
-        sign: Sign::Absent,
-        alternate: false,
-        zero: false,
-        hex,
-        width: Count::Implied,
-        widthspan: MaybeSpan::Absent,
-        precision: Count::Implied,
-        precisionspan: MaybeSpan::Absent,
-        typetext,
-        typespan,
-    };
     SpecRead {
-        spec,
-        at,
+        spec: Spec {
+            fill: None,
+            align: Align::Unknown,
+            sign: Sign::Absent,
+            alternate: false,
+            zero: false,
+            hex: typed.hex,
+            width: Count::Implied,
+            widthspan: None,
+            precision: Count::Implied,
+            precisionspan: None,
+            typetext: typed.typetext,
+            typespan: typed.span,
+        },
+        at: typed.at,
         next,
         width: Flaw::Clean,
         precision: Flaw::Clean,
-        typetext: flaw,
+        typetext: typed.flaw,
         given: 0,
     }
 }
@@ -46,14 +40,8 @@ fn type_only(typed: TypeRead, next: usize) -> SpecRead
 fn no_spec(at: TextPlace, next: usize) -> SpecRead
     ensures { result ≡ no_spec at next }
 {
-    let typed = TypeRead {
-        hex: Hex::Absent,
-        typetext: TextRange { start: at, end: at },
-        span: MaybeSpan::Absent,
-        at,
-        flaw: Flaw::Clean,
-    };
-    type_only(typed, next)
+    let none = TextRange { start: at, end: at };
+    type_only(sign_type(Hex::Absent, none, Flaw::Clean), next)
 }
 
 // A Diagnostic type: all the text to the next brace. Its span takes in the colon at `colon`.
@@ -62,11 +50,10 @@ fn diagnostic_type(text: &[u8], frame: Frame, colon: TextPlace, at: TextPlace) -
     ensures { result ≡ diagnostic_type text.now frame colon at }
 {
     let end = scan::string_end(text, at);
-    let span = frame::span_between(text, frame, colon, end);
     TypeRead {
         hex: Hex::Absent,
         typetext: TextRange { start: at, end },
-        span: MaybeSpan::Present(span),
+        span: Some(frame::span_between(text, frame, colon, end)),
         at: end,
         flaw: Flaw::Clean,
     }
@@ -86,14 +73,8 @@ fn after_colon(
 {
     match mode {
         Mode::Format => crate::format::format(text, frame, at, next),
-        Mode::InlineAsm => {
-            let typed = crate::format::word_type(text, frame, at);
-            type_only(typed, next)
-        }
-        Mode::Diagnostic => {
-            let typed = diagnostic_type(text, frame, colon, at);
-            type_only(typed, next)
-        }
+        Mode::InlineAsm => type_only(crate::format::word_type(text, frame, at), next),
+        Mode::Diagnostic => type_only(diagnostic_type(text, frame, colon, at), next),
     }
 }
 
@@ -103,9 +84,8 @@ pub fn spec(text: &[u8], frame: Frame, mode: Mode, at: TextPlace, next: usize) -
     ensures { result ≡ spec_read text.now frame mode at next }
 {
     let colon = scan::consume(text, at, b':');
-    let past = colon.at;
     if colon.ate {
-        return after_colon(text, frame, mode, at, past, next);
+        return after_colon(text, frame, mode, at, colon.at, next);
     }
     no_spec(at, next)
 }

@@ -3,7 +3,7 @@ ghost use Rattle.std.specs.Prelude.{◌≡◌};
 ghost use Rattle.placeholder.specs.Places.{is_r, raw_place, word_place, place_read};
 
 use frame::{TextPlace, TextRange};
-use scan::{Flaw, Number, Numeral};
+use scan::{Flaw, Numeral};
 
 // A place as it is written. Nothing: the place is counted once its spec is read.
 #[derive(Clone, Copy)]
@@ -25,38 +25,34 @@ pub struct PlaceRead {
 fn is_r(text: &[u8], name: TextRange) -> bool
     ensures { result ≡ is_r text.now name }
 {
-    let start = name.start;
-    let end = name.end;
-    let letter = scan::consume(text, start, b'r');
-    let past = letter.at;
-    if letter.ate { past.0 == end.0 } else { false }
+    let letter = scan::consume(text, name.start, b'r');
+    letter.ate && letter.at.0 == name.end.0
 }
 
 // After the word `r`: with `#` and a further word it is an `r#` name, which is taken without its prefix and is a flaw.
 fn raw_place(text: &[u8], name: TextRange) -> PlaceRead
     ensures { result ≡ raw_place text.now name }
 {
-    let start = name.start;
-    let end = name.end;
-    let hash = scan::consume(text, end, b'#');
-    let past = hash.at;
-    let read = scan::word(text, past);
-    let inner = read.word;
-    let flaw = read.flaw;
-    let last = inner.end;
+    let hash = scan::consume(text, name.end, b'#');
     if hash.ate {
+        let read = scan::word(text, hash.at);
+        let inner = read.word;
         if !scan::is_empty(inner) {
+            let whole = TextRange {
+                start: name.start,
+                end: inner.end,
+            };
             return PlaceRead {
                 found: Found::Word(inner),
-                at: last,
-                flaw,
-                raw: Flaw::RawName(TextRange { start, end: last }),
+                at: inner.end,
+                flaw: read.flaw,
+                raw: Flaw::RawName(whole),
             };
         }
     }
     PlaceRead {
         found: Found::Word(name),
-        at: end,
+        at: name.end,
         flaw: Flaw::Clean,
         raw: Flaw::Clean,
     }
@@ -68,8 +64,6 @@ fn word_place(text: &[u8], at: TextPlace) -> PlaceRead
 {
     let read = scan::word(text, at);
     let name = read.word;
-    let flaw = read.flaw;
-    let end = name.end;
     if scan::is_empty(name) {
         return PlaceRead {
             found: Found::Nothing,
@@ -83,8 +77,8 @@ fn word_place(text: &[u8], at: TextPlace) -> PlaceRead
     }
     PlaceRead {
         found: Found::Word(name),
-        at: end,
-        flaw,
+        at: name.end,
+        flaw: read.flaw,
         raw: Flaw::Clean,
     }
 }
@@ -94,17 +88,13 @@ pub fn position(text: &[u8], at: TextPlace) -> PlaceRead
     ensures { result ≡ place_read text.now at }
 {
     let read = scan::integer(text, at);
-    let number = read.number;
-    let digits = read.digits;
-    let flaw = read.flaw;
-    let end = digits.end;
-    match number {
-        Number::Given(value) => PlaceRead {
+    match read.number {
+        Some(value) => PlaceRead {
             found: Found::Number(value),
-            at: end,
-            flaw,
+            at: read.digits.end,
+            flaw: read.flaw,
             raw: Flaw::Clean,
         },
-        Number::Nothing => word_place(text, at),
+        None => word_place(text, at),
     }
 }

@@ -1,6 +1,6 @@
 -- Worked plain forms: texts of each mode, what some of them say and how each is written, held to the reader's definitions by computing.
 -- Rests on Plain and on the reader's definitions, on no law.
-use Rattle.std.specs.Prelude.{◌≡◌, refl, true, false, List, [], ◌∷◌, ◌++◌, map, ℕ}
+use Rattle.std.specs.Prelude.{◌≡◌, refl, true, false, List, [], ◌∷◌, ◌++◌, map, ℕ, None}
 use Rattle.utf8.specs.Choice.{pick, within}
 use Rattle.utf8.specs.Encode.{encode}
 use Rattle.utf8.specs.Utf8.{low, high, sequence_of, char_of, sequence_at, decode, peek_at}
@@ -13,7 +13,6 @@ use Rattle.letters.specs.Questions.{is_space, is_start, is_continue}
 use Rattle.frame.specs.Frames.{frame_of, body, is_literal, end_of}
 use Rattle.frame.specs.Spans.{to_snippet, start_of, span_between}
 use Rattle.frame.specs.declared.Mode.{Mode}
-use Rattle.frame.specs.declared.Style.{Style}
 use Rattle.scan.specs.Characters.{is_at, past_at, consumed, spaces_past, is_plain, text_end}
 use Rattle.scan.specs.Ends as ends
 use Rattle.scan.specs.Words.{word_end, is_underscore, word_read, is_digit, decimal, numeral, digits_at, number_from, number_read}
@@ -49,10 +48,10 @@ pub record Case : Type 0 where
 
 -- what the reader's definitions say of a text, with no style
 abbrev said_in : Mode → List ℕ → List SaidPiece
-said_in m t = said t (pieces t (frame_of t Style.Plain false [] false) m)
+said_in m t = said t (pieces t (frame_of t None false [] false) m)
 
 abbrev errors_in : Mode → List ℕ → List ErrorRecord
-errors_in m t = errors t (frame_of t Style.Plain false [] false) m
+errors_in m t = errors t (frame_of t None false [] false) m
 
 -- in Format mode: one text and another, its plain form; and a text that is its own
 abbrev becomes : List ℕ → List ℕ → Case

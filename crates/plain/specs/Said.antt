@@ -1,6 +1,6 @@
 -- What the pieces of a text say: "literals, names and words compared by their text, spans and byte ranges aside". Each range becomes its bytes,
 -- and no span is kept. Rests on the records that the reader declares.
-use Rattle.std.specs.Prelude.{Bool, List, map, ℕ}
+use Rattle.std.specs.Prelude.{Bool, List, map, ℕ, Option, Some, None}
 use Rattle.scan.specs.declared.Count.{Count}
 use Rattle.scan.specs.declared.Numeral.{Numeral}
 use Rattle.placeholder.specs.declared.Align.{Align}
@@ -52,9 +52,9 @@ module _ (t : List ℕ) where
   said_place (Place.At n) = at n
   said_place (Place.Named r) = named (text_of t r)
 
-  abbrev pub said_fill : Fill → SaidFill
-  said_fill Fill.Absent = unfilled
-  said_fill (Fill.Present c s) = filled c
+  abbrev pub said_fill : Option Fill → SaidFill
+  said_fill None = unfilled
+  said_fill (Some f) = filled f.code
 
   abbrev pub said_count : Count → SaidCount
   said_count Count.Implied = implied

@@ -1,4 +1,5 @@
 -- Bytes tell characters: an ASCII character, a digit, an align, a word, a run. Rests on `scan`'s laws of its leaves and `utf8`'s of characters.
+use Rattle.std.specs.Prelude.{None, Option, Some}
 use Prim.Native.Nat.{ℕ, ◌+◌, ◌≤◌, ◌<◌}
 use mathlib.Core.Path.{◌≡◌, refl, sym, ◌∙◌, ap}
 use mathlib.Core.Bool.{Bool, true, false, true≢false}
@@ -15,18 +16,16 @@ use Rattle.utf8.specs.CharLaws.{Peeked, peeked, ended, past_end, before_more, be
 use Rattle.letters.specs.Ascii.{ascii_start}
 use Rattle.letters.specs.AsciiLaws.{above_space}
 use Rattle.letters.specs.Questions.{is_space}
-use Rattle.utf8.specs.declared.Seen.{Seen}
-use Rattle.utf8.specs.declared.Seen.TheVariants.{Char, End}
 use Rattle.frame.specs.Places.{place, range_of}
 use Rattle.scan.specs.Characters.{is_at, consumed}
 use Rattle.scan.specs.Words.{is_digit, digits_at, number_from, number_read, word_end, word_from, is_underscore, word_read}
 use Rattle.scan.specs.ScanLaws.{run_in, word_in, is_at_byte, is_at_end}
 use Rattle.scan.specs.AsciiWordLaws.{byte_in, start_in, word_start}
 use Rattle.scan.specs.declared.Flaw.{Flaw}
-use Rattle.scan.specs.declared.Number.{Number}
 use Rattle.placeholder.specs.Parts.{is_align}
 use Rattle.quick.specs.Tellings.{blank_flaw}
 use Rattle.quick.specs.PartsTold.{Room, AsciiRun, align_byte, blank_word}
+use Rattle.utf8.specs.declared.Char.{Char}
 
 -- a digit is between `0` and `9`
 pub digit_range : {b : ℕ} → is_digit b ≡ true → (0x30 ≤ b) × (b ≤ 0x39)
@@ -76,21 +75,21 @@ module _ (t : List ℕ) (i : ℕ) where
   unfolding digits_at take_while pick
   no_digit n = go (peek_at t i) refl
     where
-      go : (s : Seen) → peek_at t i ≡ s → (digits_at t (place i) ≡ []) × (run_end is_digit t i ≡ i)
-      go End e = (simp (ended t i e), run_end_lem is_digit t i e)
-      go (Char c w) e = (simp (p.list, z), run_stop is_digit p z)
+      go : (s : Option Char) → peek_at t i ≡ s → (digits_at t (place i) ≡ []) × (run_end is_digit t i ≡ i)
+      go None e = (simp (ended t i e), run_end_lem is_digit t i e)
+      go (Some seen) e = (simp (p.list, z), run_stop is_digit p z)
         where
-          p : Peeked t i c w
+          p : Peeked t i seen.code seen.width
           p = peeked t i e
 
-          z : is_digit c ≡ false
+          z : is_digit seen.code ≡ false
           z =
-              not_so (is_digit c)
+              not_so (is_digit seen.code)
               (λ y. true≢false (sym y ∙ ap is_digit (sym (char_ascii t i e (omega (arith, digit_range y))).0) ∙ n))
 
   -- nor a number
   pub no_number : is_digit (get_or t i 0) ≡ false →
-      number_read t (place i) ≡ record { number = Number.Nothing; digits = range_of (place i) (place i); flaw = Flaw.Clean }
+      number_read t (place i) ≡ record { number = None; digits = range_of (place i) (place i); flaw = Flaw.Clean }
   unfolding number_read number_from pick
   no_number n = rw ((no_digit n).1, eq-eqb i i refl)
 

@@ -1,4 +1,5 @@
 -- Laws of a number of at most four digits, a byte at a time. Rests on Bytes and `scan`'s definition of a number.
+use Rattle.std.specs.Prelude.{Some}
 use Prim.Native.Nat.{ℕ, zero, suc, ◌+◌, ◌-◌, ◌*◌, ◌≤◌, ◌<◌}
 use mathlib.Core.Path.{◌≡◌, refl, sym, ◌∙◌, ap}
 use mathlib.Core.Bool.{Bool, true, false, true≢false}
@@ -13,10 +14,9 @@ use Rattle.utf8.specs.CharLaws.{run_more}
 use Rattle.frame.specs.Places.{place, range_of}
 use Rattle.scan.specs.Words.{is_digit, decimal, numeral, digits_at, number_from, number_read}
 use Rattle.scan.specs.declared.Flaw.{Flaw}
-use Rattle.scan.specs.declared.Number.{Number}
 use Rattle.scan.specs.declared.NumberRead.{NumberRead}
 use Rattle.scan.specs.declared.Numeral.{Numeral}
-use Rattle.quick.specs.PartsTold.{Room, part, NumberTold}
+use Rattle.quick.specs.PartsTold.{Room, NumberTold}
 use Rattle.scan.specs.AsciiWordLaws.{byte_in}
 use Rattle.quick.proofs.Bytes.{digit_range, digit_seen, no_digit}
 
@@ -42,7 +42,7 @@ module _ (t : List ℕ) (n at i : ℕ) where
 
   -- no digit more: n is the number read
   rest_stop : is_digit (get_or t i 0) ≡ false → n ≤ 65535 → at < i →
-      rest t n at i ≡ record { number = Number.Given (Numeral.Within n); digits = range_of (place at) (place i); flaw = Flaw.Clean }
+      rest t n at i ≡ record { number = Some (Numeral.Within n); digits = range_of (place at) (place i); flaw = Flaw.Clean }
   unfolding rest decimal numeral number_from pick
   rest_stop z l h =
       rw (
@@ -106,12 +106,10 @@ spelt_more {t} {at} {v} {i} {b} s h e y =
 
 -- no digit more: the number is told
 pub spelt_stop : {t : List ℕ} {at v i : ℕ} → Spelt t at v i → is_digit (get_or t at 0) ≡ true → is_digit (get_or t i 0) ≡ false →
-    NumberTold t at (part 1 v i false)
+    NumberTold t at (record { value = v; end = i })
 spelt_stop {t} {at} {v} {i} s y z =
     record {
-      one = λ _. refl;
-      read = λ _. sym s.same ∙ rest_stop t v at i z (omega (arith, s.most)) (go (ltb at i) refl);
-      whole = refl;
+      read = sym s.same ∙ rest_stop t v at i z (omega (arith, s.most)) (go (ltb at i) refl);
       inside = s.inside;
     }
   where

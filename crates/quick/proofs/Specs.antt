@@ -18,14 +18,14 @@ use Rattle.placeholder.specs.Parts.{align_read, sign_read, plain_width, width_re
 use Rattle.placeholder.specs.declared.format.AlignRead.{AlignRead}
 use Rattle.placeholder.specs.declared.format.SignRead.{SignRead}
 use Rattle.placeholder.specs.declared.format.WidthRead.{WidthRead}
-use Rattle.quick.specs.declared.PartTold.{PartTold}
+use Rattle.quick.specs.declared.CountPart.{CountPart}
 use Rattle.quick.specs.declared.TypeTold.{TypeTold}
 use Rattle.quick.specs.Tellings.{width_of, count_span, back_of, spec_of, blank_flaw}
-use Rattle.quick.specs.PartsTold.{Room, Known, FillTold, WidthTold, PrecisionTold, TypeKnown, AllTold, SpecKnown}
+use Rattle.quick.specs.PartsTold.{Room, FillTold, WidthTold, PrecisionTold, TypeKnown, FlagTold, SpecKnown}
 use Rattle.quick.proofs.Bytes.{lacks}
 
 -- a width that is told, with the `0` flag beside it
-abbrev flagged : List ℕ → Frame → ℕ → Bool → ℕ → ℕ → PartTold → WidthRead
+abbrev flagged : List ℕ → Frame → ℕ → Bool → ℕ → ℕ → CountPart → WidthRead
 flagged t f n zero from word p =
     record {
       zero = zero;
@@ -37,10 +37,10 @@ flagged t f n zero from word p =
     }
 
 -- it is the width that is read
-plain_told : {t : List ℕ} {at word : ℕ} {p : PartTold} → WidthTold t at word p → Known p → (f : Frame) (zero : Bool) (n : ℕ) →
+plain_told : {t : List ℕ} {at word : ℕ} {p : CountPart} → WidthTold t at word p → (f : Frame) (zero : Bool) (n : ℕ) →
     plain_width t f zero (place at) ≡ flagged t f n zero at word p
 unfolding plain_width count_span
-plain_told w k f zero n = rw (w.read k f n, w.spanned k f n)
+plain_told w f zero n = rw (w.read f n, w.spanned f n)
 
 -- the flag is passed, unless `$` follows it
 width_flag : (t : List ℕ) (f : Frame) (at : TextPlace) (fl : Consumed) → fl ≡ consumed t at 0x30 →
@@ -95,11 +95,10 @@ module _ {t : List ℕ} {from : ℕ} {al : AlignRead} {si : SignRead} {ha fl : C
   marks_room r i = record { within = marks_in i.inside; small = r.small }
 
   -- A SPEC IS WHAT ITS PARTS TELL
-  pub spec_known : {at word g h s : ℕ} {w p : PartTold} {k : TypeTold} {o : Bool} → FillTold t at from → WidthTold t fl.at.0 word w →
-      g ≡ back_of t fl.at.0 word w → PrecisionTold t w.end h p → s ≡ g + h → TypeKnown t p.end k → (o ≡ true → AllTold t fl.ate fl.at.0 w p k) →
+  pub spec_known : {at word g h s : ℕ} {w p : CountPart} {k : TypeTold} → FillTold t at from → WidthTold t fl.at.0 word w →
+      g ≡ back_of t fl.at.0 word w → PrecisionTold t w.end h p → s ≡ g + h → TypeKnown t p.end k → FlagTold t fl.ate fl.at.0 →
       SpecKnown t at
       (record {
-        ok = o;
         fill = from;
         align = al.align;
         sign = si.sign;
@@ -117,21 +116,19 @@ module _ {t : List ℕ} {from : ℕ} {al : AlignRead} {si : SignRead} {ha fl : C
       let back : back_of t fl.at.0 word w + h ≡ s = omega (arith, ba, su) in
       record {
         read =
-            λ y f n.
-            let a = all y in
+            λ f n.
             rw (
               fi.read f,
               ← m.align,
               ← m.sign,
               ← m.hash,
-              width_flag t f ha.at fl m.flag a.flag,
-              plain_told wi a.wide f fl.ate n,
-              pr.read a.precise f n,
-              ki.read a.typed f,
+              width_flag t f ha.at fl m.flag all,
+              plain_told wi f fl.ate n,
+              pr.read f n,
+              ki.read f,
               back,
             );
-        wide = λ y. wi.most (all y).wide;
-        precise = λ y. pr.most (all y).precise;
-        counted = λ _. wi.inside;
+        wide = wi.dotless;
+        counted = wi.inside;
         inside = ki.inside;
       }

@@ -1,10 +1,8 @@
--- What is told of a placeholder, in the records that `closing` reads. A tag of 9, and what is not `ok`, means nothing: it is not told.
-use Rattle.std.specs.Prelude.{ℕ, ◌+◌, ◌-◌, ◌≤◌, ◌≡◌, Bool, true, false, not, List, eqb, length}
+-- What is told of a placeholder, in the records that `closing` reads.
+use Rattle.std.specs.Prelude.{ℕ, ◌+◌, ◌-◌, ◌≤◌, ◌≡◌, Bool, true, false, not, List, eqb, length, Option, Some, None}
 use Rattle.utf8.specs.Choice.{pick}
 use Rattle.utf8.specs.Chars.{chars_of}
 use Rattle.utf8.specs.Utf8.{peek_at}
-use Rattle.utf8.specs.declared.Seen.{Seen}
-use Rattle.utf8.specs.declared.Seen.TheVariants.{Char, End}
 use Rattle.frame.specs.Places.{place, range_of}
 use Rattle.frame.specs.Spans.{span_between}
 use Rattle.frame.specs.declared.Frame.{Frame}
@@ -15,76 +13,93 @@ use Rattle.scan.specs.declared.Flaw.{Flaw}
 use Rattle.scan.specs.declared.Numeral.{Numeral}
 use Rattle.placeholder.specs.Arguments.{resolved}
 use Rattle.closing.specs.Recovery.{because, gap_at, passed_to, text_taken}
+use Rattle.placeholder.specs.Filling.{filling}
 use Rattle.placeholder.specs.Specs.{no_spec}
 use Rattle.closing.specs.Wholes.{placeholder_read}
 use Rattle.placeholder.specs.declared.Argument.{Argument}
 use Rattle.placeholder.specs.declared.ArgumentFlaws.{ArgumentFlaws}
 use Rattle.placeholder.specs.declared.Fill.{Fill}
-use Rattle.placeholder.specs.declared.MaybeSpan.{MaybeSpan}
 use Rattle.frame.specs.declared.Mode.{Mode}
 use Rattle.placeholder.specs.declared.Spec.{Spec}
 use Rattle.placeholder.specs.declared.position.Found.{Found}
 use Rattle.closing.specs.declared.recover.Hint.{Hint}
 use Rattle.closing.specs.declared.whole.Closing.{Closing}
 use Rattle.closing.specs.declared.whole.PlaceholderRead.{PlaceholderRead}
-use Rattle.quick.specs.declared.PartTold.{PartTold}
+use Rattle.quick.specs.declared.PlaceKind.{PlaceKind}
+use Rattle.quick.specs.declared.PlacePart.{PlacePart}
+use Rattle.quick.specs.declared.CountKind.{CountKind}
+use Rattle.quick.specs.declared.CountPart.{CountPart}
 use Rattle.quick.specs.declared.TypeTold.{TypeTold}
 use Rattle.quick.specs.declared.SignHint.{SignHint}
 use Rattle.quick.specs.declared.SpecTold.{SpecTold}
 use Rattle.quick.specs.declared.PlaceholderTold.{PlaceholderTold}
+use Rattle.frame.specs.declared.Span.{Span}
+use Rattle.utf8.specs.declared.Char.{Char}
 
--- a place that starts at a byte
-unfoldable pub found_of : ℕ → PartTold → Found
-found_of at p =
-    pick (eqb p.tag 0) Found.Nothing
-    (pick (eqb p.tag 1) (Found.Number (Numeral.Within p.value))
-    (Found.Word (range_of (place at) (place p.end))))
+-- a place that starts at a byte and ends at another
+abbrev pub place_found : ℕ → ℕ → PlaceKind → Found
+place_found at end PlaceKind.Nothing = Found.Nothing
+place_found at end (PlaceKind.Number value) = Found.Number (Numeral.Within value)
+place_found at end PlaceKind.Word = Found.Word (range_of (place at) (place end))
 
--- a width or a precision, with the next argument's number
-unfoldable pub count_of : ℕ → PartTold → Count
-count_of n p =
-    pick (eqb p.tag 0) Count.Implied
-    (pick (eqb p.tag 1) (Count.Fixed (Numeral.Within p.value))
-    (pick (eqb p.tag 2) (Count.ByArgument (Numeral.Within p.value))
-    (Count.ByStar n)))
+unfoldable pub found_of : ℕ → PlacePart → Found
+found_of at p = place_found at p.end p.kind
 
 -- a count that is a name from a byte on: its word, whose `$` ends at another
 abbrev pub name_of : List ℕ → Frame → ℕ → ℕ → Count
 name_of t f from end = Count.ByName (range_of (place from) (place (end - 1))) (span_between t f (place from) (place (end - 1)))
 
+-- a count that starts at a byte and ends at another, with the next argument's number
+abbrev pub count_found : List ℕ → Frame → ℕ → ℕ → ℕ → CountKind → Count
+count_found t f n from end CountKind.Nothing = Count.Implied
+count_found t f n from end (CountKind.Number value) = Count.Fixed (Numeral.Within value)
+count_found t f n from end (CountKind.Argument value) = Count.ByArgument (Numeral.Within value)
+count_found t f n from end CountKind.Star = Count.ByStar n
+count_found t f n from end CountKind.Name = name_of t f from end
+count_found t f n from end CountKind.Dot = Count.Implied
+
 -- a width that starts at a byte
-unfoldable pub width_of : List ℕ → Frame → ℕ → ℕ → PartTold → Count
-width_of t f n from p = pick (eqb p.tag 4) (name_of t f from p.end) (count_of n p)
+unfoldable pub width_of : List ℕ → Frame → ℕ → ℕ → CountPart → Count
+width_of t f n from p = count_found t f n from p.end p.kind
 
 -- a precision whose dot stands at a byte: behind it what a width may be, or a star, or no count
-unfoldable pub precision_of : List ℕ → Frame → ℕ → ℕ → PartTold → Count
-precision_of t f n dot p = pick (eqb p.tag 5) Count.Implied (width_of t f n (dot + 1) p)
+unfoldable pub precision_of : List ℕ → Frame → ℕ → ℕ → CountPart → Count
+precision_of t f n dot p = width_of t f n (dot + 1) p
+
+-- no count stands there, and no dot; a star does
+abbrev pub is_nothing : CountKind → Bool
+is_nothing CountKind.Nothing = true
+is_nothing _ = false
+
+abbrev pub is_star : CountKind → Bool
+is_star CountKind.Star = true
+is_star _ = false
 
 -- the span of a count that starts at a byte
-unfoldable pub count_span : List ℕ → Frame → ℕ → PartTold → MaybeSpan
-count_span t f from p = pick (eqb p.tag 0) MaybeSpan.Absent (MaybeSpan.Present (span_between t f (place from) (place p.end)))
+unfoldable pub count_span : List ℕ → Frame → ℕ → CountPart → Option Span
+count_span t f from p = pick (is_nothing p.kind) None (Some (span_between t f (place from) (place p.end)))
 
 -- how many characters of the word between two bytes are given back where a count was looked for: all of them where it is none
-unfoldable pub back_of : List ℕ → ℕ → ℕ → PartTold → ℕ
-back_of t from word p = pick (eqb p.tag 0) (length (chars_of t from word)) 0
+unfoldable pub back_of : List ℕ → ℕ → ℕ → CountPart → ℕ
+back_of t from word p = pick (is_nothing p.kind) (length (chars_of t from word)) 0
 
 -- the code of a character; 0 at the end
-abbrev pub code_seen : Seen → ℕ
-code_seen End = 0
-code_seen (Char c w) = c
+abbrev pub code_seen : Option Char → ℕ
+code_seen None = 0
+code_seen (Some seen) = seen.code
 
 -- the fill that starts at a byte and ends at another; none where they are the same
-unfoldable pub fill_of : List ℕ → Frame → ℕ → ℕ → Fill
+unfoldable pub fill_of : List ℕ → Frame → ℕ → ℕ → Option Fill
 fill_of t f at past =
-    pick (eqb at past) Fill.Absent (Fill.Present (code_seen (peek_at t at)) (span_across t f (place at) (place at)))
+    pick (eqb at past) None (filling (code_seen (peek_at t at)) (span_across t f (place at) (place at)))
 
 -- a type's span: a word has one
-unfoldable pub type_span : List ℕ → Frame → TypeTold → MaybeSpan
-type_span t f k = pick k.word (MaybeSpan.Present (span_between t f (place k.from) (place k.end))) MaybeSpan.Absent
+unfoldable pub type_span : List ℕ → Frame → TypeTold → Option Span
+type_span t f k = pick k.word (Some (span_between t f (place k.from) (place k.end))) None
 
 -- the next argument's number after a star, and after a place that is not written
-unfoldable pub after_star : ℕ → PartTold → ℕ
-after_star n p = pick (eqb p.tag 3) (n + 1) n
+unfoldable pub after_star : ℕ → CountPart → ℕ
+after_star n p = pick (is_star p.kind) (n + 1) n
 
 -- the spec that starts at a byte, after its colon
 unfoldable pub spec_of : List ℕ → Frame → ℕ → ℕ → SpecTold → Spec
@@ -171,15 +186,13 @@ in_mode Mode.Diagnostic colon = not colon
 
 -- WHAT IS TOLD IS WHAT IS READ, for the placeholder whose place starts at a byte, in any frame and with any number of the next argument
 pub record Tells (t : List ℕ) (at : ℕ) (x : PlaceholderTold) : Type 0 where
-  pub read : x.ok ≡ true → (m : Mode) → in_mode m x.colon ≡ true → (f : Frame) (brace n : ℕ) → at ≡ brace + 1 →
+  pub read : (m : Mode) → in_mode m x.colon ≡ true → (f : Frame) (brace n : ℕ) → at ≡ brace + 1 →
       placeholder_read t f m (place brace) (place at) n ≡ told_read t f brace n x
-  pub placed : x.ok ≡ true → x.place.tag ≤ 2
-  pub wide : x.ok ≡ true → x.spec.width.tag ≤ 4
-  pub precise : x.ok ≡ true → x.spec.precision.tag ≤ 5
-  pub counted : x.ok ≡ true → x.spec.width.end ≤ length t
-  pub reached : x.ok ≡ true → x.to ≤ length t
-  pub closed : x.ok ≡ true → x.close ≤ length t
-  pub on : x.ok ≡ true → x.on ≤ length t
+  pub wide : x.spec.width.kind ≡ CountKind.Dot → ⊥
+  pub counted : x.spec.width.end ≤ length t
+  pub reached : x.to ≤ length t
+  pub closed : x.close ≤ length t
+  pub on : x.on ≤ length t
 
 -- NOTHING IS WRONG in what is told
 pub record Flawless (x : PlaceholderTold) : Type 0 where

@@ -1,42 +1,43 @@
 // A placeholder that ends at its closing brace, told by its parts, for runs that write nothing. Its place and its spec are read here, though `place` and `whole` read them, too: called from two
 // places they become calls where the lane stops (docs/SPEED.md, 'The rule for hot paths').
-ghost use Rattle.std.specs.Prelude.{◌≡◌, true, false, ◌+◌, get_or};
+ghost use Rattle.std.specs.Prelude.{◌≡◌, true, false, ◌+◌, get_or, IfSome};
 ghost use Rattle.quick.specs.Tellings.{Tells};
-ghost use Rattle.quick.specs.PartsTold.{Room, PlaceTold, SpecKnown, NoSpec, LeftTold};
+ghost use Rattle.quick.specs.PartsTold.{Room, PlaceTold, SpecKnown, SpecEither};
 
 use crate::{
-    PartTold, PlaceholderTold, SignHint, SpecTold, all_told, fill_end, given_back, is_blank,
-    is_digit, is_raw, no_spec, nothing, number, plain, precision, space_end, type_at, untold,
+    PlaceKind, PlacePart, PlaceholderTold, SignHint, SpecTold, fill_end, given_back, is_blank,
+    is_digit, is_raw, no_place, no_spec, number, number_place, precision, space_end, type_at,
     width, word_at, word_end,
 };
 use frame::TextPlace;
 
 // The place of an argument: a number, a word that is neither `_` nor begins a raw name, or nothing.
-fn clear_place(text: &[u8], at: usize) -> PartTold
+fn clear_place(text: &[u8], at: usize) -> Option<PlacePart>
     requires { Room text.now at }
-    ensures { PlaceTold text.now at result }
+    ensures { IfSome result (PlaceTold text.now at) }
 {
     let b = utf8::byte(text, at);
     if is_digit(b) {
-        return number(text, at);
+        return Some(number_place(number(text, at)?));
     }
     let end = word_end(text, at);
     if end == at {
-        return nothing(at);
+        return Some(no_place(at));
     }
-    if is_raw(text, b, at, end) {
-        return untold(at);
+    if is_raw(text, b, at, end) || is_blank(b, at, end) {
+        return None;
     }
-    if is_blank(b, at, end) {
-        return untold(at);
-    }
-    plain(2, 0, end)
+    Some(PlacePart {
+        kind: PlaceKind::Word,
+        end,
+        blank: false,
+    })
 }
 
 // The spec from after its colon.
-fn clear_spec(text: &[u8], at: usize) -> SpecTold
+fn clear_spec(text: &[u8], at: usize) -> Option<SpecTold>
     requires { Room text.now at }
-    ensures { SpecKnown text.now at result }
+    ensures { IfSome result (SpecKnown text.now at) }
 {
     let fill = fill_end(text, at);
     let aligning = placeholder::format::read_align(text, TextPlace(fill));
@@ -47,11 +48,14 @@ fn clear_spec(text: &[u8], at: usize) -> SpecTold
     let flag = scan::consume(text, hash.at, b'0');
     let from = flag.at.0;
     let word = word_at(text, from);
-    let wide = width(text, from, word.end);
-    let precise = precision(text, wide.end);
-    let typed = type_at(text, precise.end, from, word.end);
-    SpecTold {
-        ok: all_told(text, flag.ate, from, wide, precise, typed),
+    let wide = width(text, from, word.end)?;
+    let precise = precision(text, wide.end)?;
+    let typed = type_at(text, precise.end, from, word.end)?;
+    // A `0` with `$` is no flag.
+    if flag.ate && utf8::byte(text, from) == b'$' {
+        return None;
+    }
+    Some(SpecTold {
         fill,
         align,
         sign,
@@ -63,45 +67,34 @@ fn clear_spec(text: &[u8], at: usize) -> SpecTold
         precision: precise,
         typed,
         given: given_back(text, from, word, wide),
-    }
+    })
 }
 
 // The spec of a placeholder whose place ends at `to`: behind a colon, or none.
-fn clear_spec_from(text: &[u8], to: usize, colon: bool) -> SpecTold
+fn clear_spec_from(text: &[u8], to: usize, colon: bool) -> Option<SpecTold>
     requires { Room text.now to × (colon ≡ true → get_or text.now to 0 ≡ 0x3A) }
-    ensures { (colon ≡ true → SpecKnown text.now (to + 1) result) × (colon ≡ false → NoSpec to result) }
+    ensures { IfSome result (SpecEither text.now to colon) }
 {
     if colon {
         return clear_spec(text, to + 1);
     }
-    no_spec(to)
-}
-
-// Whether a placeholder is told at whose end the byte `b` stands: only where that is its closing brace.
-fn is_closed(b: u8, place: PartTold, spec: bool) -> bool
-    ensures { result ≡ true → LeftTold b place spec × (b ≡ 0x7D) }
-{
-    if !spec {
-        return false;
-    }
-    if place.tag == 9 {
-        return false;
-    }
-    b == b'}'
+    Some(no_spec(to))
 }
 
 // The placeholder whose place starts at `at`, after its opening brace.
-pub fn tell_closed(text: &[u8], at: usize) -> PlaceholderTold
+pub fn tell_closed(text: &[u8], at: usize) -> Option<PlaceholderTold>
     requires { Room text.now at }
-    ensures { Tells text.now at result }
+    ensures { IfSome result (Tells text.now at) }
 {
-    let placed = clear_place(text, at);
+    let placed = clear_place(text, at)?;
     let to = space_end(text, placed.end);
     let colon = utf8::byte(text, to) == b':';
-    let spec = clear_spec_from(text, to, colon);
+    let spec = clear_spec_from(text, to, colon)?;
     let close = space_end(text, spec.typed.end);
-    PlaceholderTold {
-        ok: is_closed(utf8::byte(text, close), placed, spec.ok),
+    if utf8::byte(text, close) != b'}' {
+        return None;
+    }
+    Some(PlaceholderTold {
         place: placed,
         to,
         colon,
@@ -110,5 +103,5 @@ pub fn tell_closed(text: &[u8], at: usize) -> PlaceholderTold
         closed: true,
         hint: SignHint::Silent,
         on: close + 1,
-    }
+    })
 }

@@ -1,29 +1,61 @@
 // The parts of a placeholder of Format mode, told in plain numbers, with the faults that need no more than a look: a word `_`, and a closing brace
-// that is missing. What they tell is what `closing` reads, and what they do not tell is left to it. `whole` puts them together; `flawless` writes each part as soon as it is told.
+// that is missing. What they tell is what `closing` reads, and of what they do not tell (`None`) nothing is said: it is left to it. `whole` puts them together; `flawless` writes
+// each part as soon as it is told.
 #![tactic(auto)]
 
 pub mod whole; // whole.rt: a placeholder by its parts, whatever is wrong in it
 pub mod clear; // clear.rt: one that ends at its closing brace, for runs that write nothing
 
-ghost use Rattle.std.specs.Prelude.{◌≡◌, true, false, ◌+◌, ◌≤◌, get_or};
+ghost use Rattle.std.specs.Prelude.{◌≡◌, true, false, ◌+◌, ◌≤◌, get_or, IfSome};
 ghost use Rattle.frame.specs.Places.{place};
 ghost use Rattle.utf8.specs.Chars.{run_end};
 ghost use Rattle.letters.specs.Questions.{is_space};
 ghost use Rattle.letters.specs.Ascii.{ascii_continue};
 ghost use Rattle.scan.specs.Words.{is_digit, word_end};
-ghost use Rattle.quick.specs.Tellings.{back_of};
-ghost use Rattle.quick.specs.PartsTold.{Room, part, align_byte, sign_byte, ends_byte, blank_word, raw_word, sign_of, type_word, type_none, hint_of, onward_of, AsciiRun, WordKnown, NumberTold, PlaceTold, FillTold, CountGiven, WidthTold, PrecisionTold, TypeKnown, AllTold, NoSpec, LeftTold};
+ghost use Rattle.quick.specs.Tellings.{is_nothing, back_of};
+ghost use Rattle.quick.specs.PartsTold.{Room, number_place, place_none, fixed_count, count_none, align_byte, sign_byte, ends_byte, blank_word, raw_word, sign_told, type_word, type_none, hint_of, onward_of, AsciiRun, WordKnown, NumberTold, PlaceTold, FillTold, CountGiven, WidthTold, PrecisionTold, TypeKnown, NoSpec};
 
 use frame::TextPlace;
 use placeholder::{Align, Hex, Sign};
-use utf8::Seen;
 
-// A place or a count. Tag 0: nothing; 1: a number; 2: of a place a word, of a count a number with `$`; 3: a star; 4: a word with `$`; 5: a dot
-// with no count behind it; 9: it is not told. `blank`: the word `_` stands there, which is a fault.
+// A number of at most four digits, and where it ends.
 #[derive(Clone, Copy)]
-pub struct PartTold {
-    pub tag: u8,
+pub struct NumberPart {
     pub value: u16,
+    pub end: usize,
+}
+
+// What stands where the place of an argument may.
+#[derive(Clone, Copy)]
+pub enum PlaceKind {
+    Nothing,
+    Number(u16),
+    Word,
+}
+
+// The place of an argument. `blank`: the word `_` stands there, which is a fault.
+#[derive(Clone, Copy)]
+pub struct PlacePart {
+    pub kind: PlaceKind,
+    pub end: usize,
+    pub blank: bool,
+}
+
+// What stands where a width or a precision may: a number, an argument's number or a name with its `$`, a star, or a dot with no count behind it.
+#[derive(Clone, Copy)]
+pub enum CountKind {
+    Nothing,
+    Number(u16),
+    Argument(u16),
+    Star,
+    Name,
+    Dot,
+}
+
+// A width or a precision. `blank`: the word `_` stands there, which is a fault.
+#[derive(Clone, Copy)]
+pub struct CountPart {
+    pub kind: CountKind,
     pub end: usize,
     pub blank: bool,
 }
@@ -31,7 +63,7 @@ pub struct PartTold {
 // A precision, and how many characters were read for it and given back.
 #[derive(Clone, Copy)]
 pub struct PreciseTold {
-    pub part: PartTold,
+    pub part: CountPart,
     pub given: usize,
 }
 
@@ -43,10 +75,9 @@ pub struct WordTold {
 }
 
 // A type: where its text starts and ends, and whether it is a word, and the word `_`. The text of `x?` and `X?` is the `?`, and what stands before it
-// is `hex`. Not `ok`: it is not told.
+// is `hex`.
 #[derive(Clone, Copy)]
 pub struct TypeTold {
-    pub ok: bool,
     pub hex: Hex,
     pub word: bool,
     pub blank: bool,
@@ -58,7 +89,6 @@ pub struct TypeTold {
 // there ends, its other parts, and how many characters were read for a width or a precision and given back.
 #[derive(Clone, Copy)]
 pub struct SpecTold {
-    pub ok: bool,
     pub fill: usize,
     pub align: Align,
     pub sign: Sign,
@@ -66,8 +96,8 @@ pub struct SpecTold {
     pub zero: bool,
     pub from: usize,
     pub word: usize,
-    pub width: PartTold,
-    pub precision: PartTold,
+    pub width: CountPart,
+    pub precision: CountPart,
     pub typed: TypeTold,
     pub given: usize,
 }
@@ -86,8 +116,7 @@ pub enum SignHint {
 // missing, and where reading goes on.
 #[derive(Clone, Copy)]
 pub struct PlaceholderTold {
-    pub ok: bool,
-    pub place: PartTold,
+    pub place: PlacePart,
     pub to: usize,
     pub colon: bool,
     pub spec: SpecTold,
@@ -110,55 +139,85 @@ pub fn space_end(text: &[u8], at: usize) -> usize
     letters::space_end(utf8::whole(text), at)
 }
 
+#[tactic(auto, unfolding(scan::specs::Words::is_digit, utf8::specs::Choice::within))]
 pub fn is_digit(b: u8) -> bool
     ensures { result ≡ is_digit b }
 {
-    if 0x30 <= b { b <= 0x39 } else { false }
+    matches!(b, b'0'..=b'9')
 }
 
 // The number at a place, of at most four digits.
-pub fn number(text: &[u8], at: usize) -> PartTold
+pub fn number(text: &[u8], at: usize) -> Option<NumberPart>
     requires { Room text.now at × (is_digit (get_or text.now at 0) ≡ true) }
-    ensures { NumberTold text.now at result }
+    ensures { IfSome result (NumberTold text.now at) }
 {
     let mut value = 0;
-    let mut i = at;
-    while i < at + 4 {
+    for i in at..at + 4 {
         let b = utf8::byte(text, i);
         if !is_digit(b) {
-            return plain(1, value, i);
+            return Some(NumberPart { value, end: i });
         }
         value = value * 10 + (b - 0x30) as u16;
-        i += 1;
     }
-    if is_digit(utf8::byte(text, i)) {
-        return untold(i);
+    let end = at + 4;
+    if is_digit(utf8::byte(text, end)) {
+        return None;
     }
-    plain(1, value, i)
+    Some(NumberPart { value, end })
 }
 
-// A part in which nothing is wrong.
-pub fn plain(tag: u8, value: u16, end: usize) -> PartTold
-    ensures { result ≡ part tag value end false }
+// A place that is a number.
+pub fn number_place(number: NumberPart) -> PlacePart
+    ensures { result ≡ number_place number }
 {
-    PartTold {
-        tag,
-        value,
+    PlacePart {
+        kind: PlaceKind::Number(number.value),
+        end: number.end,
+        blank: false,
+    }
+}
+
+// No place.
+pub fn no_place(at: usize) -> PlacePart
+    ensures { result ≡ place_none at }
+{
+    PlacePart {
+        kind: PlaceKind::Nothing,
+        end: at,
+        blank: false,
+    }
+}
+
+// A count in which nothing is wrong.
+fn plain(kind: CountKind, end: usize) -> CountPart
+    ensures { result ≡ record { kind = kind; end = end; blank = false } }
+{
+    CountPart {
+        kind,
         end,
         blank: false,
     }
 }
 
-pub fn untold(at: usize) -> PartTold
-    ensures { result ≡ part 9 0 at false }
+// A count that is a number.
+pub fn fixed_count(number: NumberPart) -> CountPart
+    ensures { result ≡ fixed_count number }
 {
-    plain(9, 0, at)
+    plain(CountKind::Number(number.value), number.end)
 }
 
-pub fn nothing(at: usize) -> PartTold
-    ensures { result ≡ part 0 0 at false }
+// No count.
+pub fn no_count(at: usize) -> CountPart
+    ensures { result ≡ count_none at }
 {
-    plain(0, 0, at)
+    plain(CountKind::Nothing, at)
+}
+
+// Whether there is none, and no dot.
+fn is_nothing(kind: CountKind) -> bool
+    ensures { result ≡ is_nothing kind }
+{
+    matches!(kind, CountKind::Nothing)
 }
 
 // Whether a byte is an ASCII letter, `_` or a digit. Letters come first: they are the most.
@@ -175,14 +234,12 @@ fn continues(b: u8) -> bool
 fn ascii_end(text: &[u8], at: usize) -> usize
     ensures { AsciiRun text.now at result }
 {
-    let mut i = at;
-    while i < text.len() {
+    for i in at..text.len() {
         if !continues(text[i]) {
             return i;
         }
-        i += 1;
     }
-    i
+    at.max(text.len())
 }
 
 // The word at a place. One in ASCII is passed here, and only one with other letters takes a call, which goes on from there: so this is small enough to
@@ -225,11 +282,11 @@ pub fn word_end(text: &[u8], at: usize) -> usize
 }
 
 // How many characters of the word at `from` are given back: all of them, where it was read for a count and is none.
-pub fn given_back(text: &[u8], from: usize, word: WordTold, width: PartTold) -> usize
+pub fn given_back(text: &[u8], from: usize, word: WordTold, width: CountPart) -> usize
     requires { WordKnown text.now from word }
     ensures { result ≡ back_of text.now from word.end width }
 {
-    if width.tag != 0 {
+    if !is_nothing(width.kind) {
         return 0;
     }
     if word.ascii {
@@ -239,27 +296,26 @@ pub fn given_back(text: &[u8], from: usize, word: WordTold, width: PartTold) -> 
 }
 
 // The place of an argument. `r` with a `#` after it is not told.
-pub fn place(text: &[u8], at: usize) -> PartTold
+pub fn place(text: &[u8], at: usize) -> Option<PlacePart>
     requires { Room text.now at }
-    ensures { PlaceTold text.now at result }
+    ensures { IfSome result (PlaceTold text.now at) }
 {
     let b = utf8::byte(text, at);
     if is_digit(b) {
-        return number(text, at);
+        return Some(number_place(number(text, at)?));
     }
     let end = word_end(text, at);
     if end == at {
-        return nothing(at);
+        return Some(no_place(at));
     }
     if is_raw(text, b, at, end) {
-        return untold(at);
+        return None;
     }
-    PartTold {
-        tag: 2,
-        value: 0,
+    Some(PlacePart {
+        kind: PlaceKind::Word,
         end,
         blank: is_blank(b, at, end),
-    }
+    })
 }
 
 // Whether a word, whose first byte is given, is `r` with a `#` after it, as a raw name begins.
@@ -319,135 +375,124 @@ fn wide_fill(text: &[u8], at: usize) -> usize
     ensures { FillTold text.now at result }
 {
     match utf8::peek(text, at) {
-        Seen::Char { code: _, width } => {
-            if is_align(utf8::byte(text, at + width)) {
-                return at + width;
+        Some(seen) => {
+            if is_align(utf8::byte(text, at + seen.width)) {
+                return at + seen.width;
             }
             at
         }
-        Seen::End => at,
+        None => at,
     }
 }
 
 // A count that begins with a digit.
-fn count(text: &[u8], at: usize) -> PartTold
+fn count(text: &[u8], at: usize) -> Option<CountPart>
     requires { Room text.now at × (is_digit (get_or text.now at 0) ≡ true) }
-    ensures { CountGiven text.now at result }
+    ensures { IfSome result (CountGiven text.now at) }
 {
-    let read = number(text, at);
-    if read.tag == 9 {
-        return read;
-    }
+    let read = number(text, at)?;
     if utf8::byte(text, read.end) == b'$' {
-        return PartTold {
-            tag: 2,
-            value: read.value,
-            end: read.end + 1,
-            blank: false,
-        };
+        return Some(plain(CountKind::Argument(read.value), read.end + 1));
     }
-    read
+    Some(fixed_count(read))
 }
 
 // The width. `word` is where the word at `at` ends: with `$` it is a name, without it is left for the type.
-pub fn width(text: &[u8], at: usize, word: usize) -> PartTold
+pub fn width(text: &[u8], at: usize, word: usize) -> Option<CountPart>
     requires { Room text.now at × (word ≡ (word_end text.now (place at)).0) }
-    ensures { WidthTold text.now at word result }
+    ensures { IfSome result (WidthTold text.now at word) }
 {
     let b = utf8::byte(text, at);
     if is_digit(b) {
         return count(text, at);
     }
     let blank = is_blank(b, at, word);
-    if at < word {
-        if utf8::byte(text, word) == b'$' {
-            return PartTold {
-                tag: 4,
-                value: 0,
-                end: word + 1,
-                blank,
-            };
-        }
+    if at < word && utf8::byte(text, word) == b'$' {
+        return Some(CountPart {
+            kind: CountKind::Name,
+            end: word + 1,
+            blank,
+        });
     }
-    PartTold {
-        tag: 0,
-        value: 0,
+    Some(CountPart {
+        kind: CountKind::Nothing,
         end: at,
         blank,
-    }
+    })
 }
 
 // The precision with its dot: a star or a number; any other is not told, so that this stays small.
-pub fn precision(text: &[u8], at: usize) -> PartTold
+pub fn precision(text: &[u8], at: usize) -> Option<CountPart>
     requires { Room text.now at }
-    ensures { PrecisionTold text.now at 0 result }
+    ensures { IfSome result (PrecisionTold text.now at 0) }
 {
     if utf8::byte(text, at) != b'.' {
-        return nothing(at);
+        return Some(no_count(at));
     }
     let b = utf8::byte(text, at + 1);
     if b == b'*' {
-        return plain(3, 0, at + 2);
+        return Some(plain(CountKind::Star, at + 2));
     }
     if is_digit(b) {
         return count(text, at + 1);
     }
-    untold(at)
+    None
 }
 
 // Any precision that is told: a star, what a width may be, or a dot alone. A word without `$` behind the dot is read and given back; the word `_` is not told.
-pub fn any_precision(text: &[u8], at: usize) -> PreciseTold
+pub fn any_precision(text: &[u8], at: usize) -> Option<PreciseTold>
     requires { Room text.now at }
-    ensures { PrecisionTold text.now at result.given result.part }
+    ensures { IfSome result (λ p. PrecisionTold text.now at p.given p.part) }
 {
     if utf8::byte(text, at) != b'.' {
-        return kept(nothing(at));
+        return Some(kept(no_count(at)));
     }
     let from = at + 1;
     if utf8::byte(text, from) == b'*' {
-        return kept(plain(3, 0, at + 2));
+        return Some(kept(plain(CountKind::Star, at + 2)));
     }
     let word = word_at(text, from);
-    let count = width(text, from, word.end);
+    let count = width(text, from, word.end)?;
     if count.blank {
-        return kept(untold(at));
+        return None;
     }
-    if count.tag != 0 {
-        return kept(count);
+    if !is_nothing(count.kind) {
+        return Some(kept(count));
     }
-    PreciseTold {
-        part: plain(5, 0, count.end),
+    Some(PreciseTold {
+        part: plain(CountKind::Dot, count.end),
         given: given_back(text, from, word, count),
-    }
+    })
 }
 
 // A precision of which nothing was given back.
-fn kept(part: PartTold) -> PreciseTold
+fn kept(part: CountPart) -> PreciseTold
     ensures { result ≡ record { part = part; given = 0 } }
 {
     PreciseTold { part, given: 0 }
 }
 
 // A sign of a type, `?`, `x` or `X`: alone it is told.
-pub fn sign_type(text: &[u8], at: usize) -> TypeTold
+pub fn sign_type(text: &[u8], at: usize) -> Option<TypeTold>
     requires { Room text.now (at + 1) }
-    ensures { result ≡ sign_of text.now at }
+    ensures { result ≡ sign_told text.now at }
 {
-    let after = utf8::byte(text, at + 1);
-    TypeTold {
-        ok: ends_spec(after),
+    if !ends_spec(utf8::byte(text, at + 1)) {
+        return None;
+    }
+    Some(TypeTold {
         hex: Hex::Absent,
         word: false,
         blank: false,
         from: at,
         end: at + 1,
-    }
+    })
 }
 
 // The same, or an `x` or `X` with the `?` after it; the sign is given.
-fn any_sign_type(text: &[u8], b: u8, at: usize) -> TypeTold
+fn any_sign_type(text: &[u8], b: u8, at: usize) -> Option<TypeTold>
     requires { Room text.now (at + 1) × (b ≡ get_or text.now at 0) × (sign_byte b ≡ true) }
-    ensures { TypeKnown text.now at result }
+    ensures { IfSome result (TypeKnown text.now at) }
 {
     if b == b'?' {
         return sign_type(text, at);
@@ -455,14 +500,13 @@ fn any_sign_type(text: &[u8], b: u8, at: usize) -> TypeTold
     if utf8::byte(text, at + 1) != b'?' {
         return sign_type(text, at);
     }
-    TypeTold {
-        ok: true,
+    Some(TypeTold {
         hex: if b == b'x' { Hex::Lower } else { Hex::Upper },
         word: false,
         blank: false,
         from: at + 1,
         end: at + 2,
-    }
+    })
 }
 
 // Where no type stands.
@@ -470,7 +514,6 @@ pub fn no_type(at: usize) -> TypeTold
     ensures { result ≡ type_none at }
 {
     TypeTold {
-        ok: true,
         hex: Hex::Absent,
         word: false,
         blank: false,
@@ -498,7 +541,6 @@ pub fn word_type(b: u8, at: usize, end: usize) -> TypeTold
     ensures { result ≡ type_word b at end }
 {
     TypeTold {
-        ok: true,
         hex: Hex::Absent,
         word: at < end,
         blank: is_blank(b, at, end),
@@ -518,41 +560,16 @@ fn ends_spec(b: u8) -> bool
 }
 
 // The type. The word at `from` ends at `word`, and is not looked for again.
-pub fn type_at(text: &[u8], at: usize, from: usize, word: usize) -> TypeTold
+pub fn type_at(text: &[u8], at: usize, from: usize, word: usize) -> Option<TypeTold>
     requires { Room text.now at × (word ≡ (word_end text.now (place from)).0) }
-    ensures { TypeKnown text.now at result }
+    ensures { IfSome result (TypeKnown text.now at) }
 {
     let b = utf8::byte(text, at);
     if is_type_sign(b) {
         return any_sign_type(text, b, at);
     }
     let end = if at == from { word } else { word_end(text, at) };
-    word_type(b, at, end)
-}
-
-// Whether the parts of a spec are told. A `0` with `$` is no flag, and is not told.
-pub fn all_told(
-    text: &[u8],
-    zero: bool,
-    from: usize,
-    width: PartTold,
-    precision: PartTold,
-    typed: TypeTold,
-) -> bool
-    ensures { result ≡ true → AllTold text.now zero from width precision typed }
-{
-    if zero {
-        if utf8::byte(text, from) == b'$' {
-            return false;
-        }
-    }
-    if width.tag == 9 {
-        return false;
-    }
-    if precision.tag == 9 {
-        return false;
-    }
-    typed.ok
+    Some(word_type(b, at, end))
 }
 
 // Where no spec stands.
@@ -560,7 +577,6 @@ pub fn no_spec(at: usize) -> SpecTold
     ensures { NoSpec at result }
 {
     SpecTold {
-        ok: true,
         fill: at,
         align: Align::Unknown,
         sign: Sign::Absent,
@@ -568,27 +584,11 @@ pub fn no_spec(at: usize) -> SpecTold
         zero: false,
         from: at,
         word: at,
-        width: nothing(at),
-        precision: nothing(at),
+        width: no_count(at),
+        precision: no_count(at),
         typed: no_type(at),
         given: 0,
     }
-}
-
-// Whether a placeholder at whose end the byte `b` stands is told. A `?` and a `.` there may begin more.
-pub fn is_told(b: u8, place: PartTold, spec: bool) -> bool
-    ensures { result ≡ true → LeftTold b place spec }
-{
-    if !spec {
-        return false;
-    }
-    if place.tag == 9 {
-        return false;
-    }
-    if b == b'?' {
-        return false;
-    }
-    b != b'.'
 }
 
 // What is said of the sign at a place where a closing brace was expected, if two characters remain.

@@ -1,19 +1,19 @@
 // A whole placeholder of Format mode, told by its parts, whatever is wrong in it: a word `_` is noted, and a closing brace that is missing. Nothing is written here: `told`
 // writes what is told.
-ghost use Rattle.std.specs.Prelude.{◌≡◌, true, false, ◌+◌, get_or};
+ghost use Rattle.std.specs.Prelude.{◌≡◌, true, false, ◌+◌, get_or, IfSome};
 ghost use Rattle.quick.specs.Tellings.{Tells};
-ghost use Rattle.quick.specs.PartsTold.{Room, hint_of, SpecKnown, NoSpec};
+ghost use Rattle.quick.specs.PartsTold.{Room, hint_of, SpecKnown, SpecEither};
 
 use crate::{
-    PlaceholderTold, SignHint, SpecTold, all_told, any_precision, fill_end, given_back, hint_at,
-    is_told, no_spec, onward, place, space_end, type_at, width, word_at,
+    PlaceholderTold, SignHint, SpecTold, any_precision, fill_end, given_back, hint_at, no_spec,
+    onward, place, space_end, type_at, width, word_at,
 };
 use frame::TextPlace;
 
 // The spec from after its colon.
-fn tell_spec(text: &[u8], at: usize) -> SpecTold
+fn tell_spec(text: &[u8], at: usize) -> Option<SpecTold>
     requires { Room text.now at }
-    ensures { SpecKnown text.now at result }
+    ensures { IfSome result (SpecKnown text.now at) }
 {
     let fill = fill_end(text, at);
     let aligning = placeholder::format::read_align(text, TextPlace(fill));
@@ -24,12 +24,15 @@ fn tell_spec(text: &[u8], at: usize) -> SpecTold
     let flag = scan::consume(text, hash.at, b'0');
     let from = flag.at.0;
     let word = word_at(text, from);
-    let wide = width(text, from, word.end);
-    let precise = any_precision(text, wide.end);
+    let wide = width(text, from, word.end)?;
+    let precise = any_precision(text, wide.end)?;
     let precision = precise.part;
-    let typed = type_at(text, precision.end, from, word.end);
-    SpecTold {
-        ok: all_told(text, flag.ate, from, wide, precision, typed),
+    let typed = type_at(text, precision.end, from, word.end)?;
+    // A `0` with `$` is no flag.
+    if flag.ate && utf8::byte(text, from) == b'$' {
+        return None;
+    }
+    Some(SpecTold {
         fill,
         align,
         sign,
@@ -41,18 +44,18 @@ fn tell_spec(text: &[u8], at: usize) -> SpecTold
         precision,
         typed,
         given: given_back(text, from, word, wide) + precise.given,
-    }
+    })
 }
 
 // The spec of a placeholder whose place ends at `to`: behind a colon, or none.
-fn spec_from(text: &[u8], to: usize, colon: bool) -> SpecTold
+fn spec_from(text: &[u8], to: usize, colon: bool) -> Option<SpecTold>
     requires { Room text.now to × (colon ≡ true → get_or text.now to 0 ≡ 0x3A) }
-    ensures { (colon ≡ true → SpecKnown text.now (to + 1) result) × (colon ≡ false → NoSpec to result) }
+    ensures { IfSome result (SpecEither text.now to colon) }
 {
     if colon {
         return tell_spec(text, to + 1);
     }
-    no_spec(to)
+    Some(no_spec(to))
 }
 
 // What is said of the sign where a placeholder ends. Most end at their closing brace, of which nothing is said.
@@ -67,20 +70,23 @@ fn hint_unless(text: &[u8], closed: bool, at: usize) -> SignHint
 }
 
 // The placeholder whose place starts at `at`, after its opening brace.
-pub fn tell(text: &[u8], at: usize) -> PlaceholderTold
+pub fn tell(text: &[u8], at: usize) -> Option<PlaceholderTold>
     requires { Room text.now at }
-    ensures { Tells text.now at result }
+    ensures { IfSome result (Tells text.now at) }
 {
-    let placed = place(text, at);
+    let placed = place(text, at)?;
     let to = space_end(text, placed.end);
     let colon = utf8::byte(text, to) == b':';
-    let spec = spec_from(text, to, colon);
+    let spec = spec_from(text, to, colon)?;
     let close = space_end(text, spec.typed.end);
     let b = utf8::byte(text, close);
+    // A `?` and a `.` there may begin more.
+    if b == b'?' || b == b'.' {
+        return None;
+    }
     let closed = b == b'}';
     let hint = hint_unless(text, closed, close);
-    PlaceholderTold {
-        ok: is_told(b, placed, spec.ok),
+    Some(PlaceholderTold {
         place: placed,
         to,
         colon,
@@ -89,5 +95,5 @@ pub fn tell(text: &[u8], at: usize) -> PlaceholderTold
         closed,
         hint,
         on: onward(closed, hint, close),
-    }
+    })
 }

@@ -6,7 +6,9 @@ use Prim.Native.Nat.{ℕ, ◌*◌, ◌/◌, ◌≤◌}
 use native.Mathlib.Omega.{arith}
 use lib.Dec.{eqb}
 use lib.ListN.{length}
-use borrow.Author.Tests.{eqb-true, not-false}
+use borrow.Author.Tests.{eqb-true, not-false, eq-eqb, ne_eqb}
+use Rattle.std.specs.Prelude.{Some, None}
+use Rattle.utf8.specs.Chars.{chars_from}
 use Rattle.utf8.specs.Choice.{pick}
 use Rattle.frame.specs.Bounds.{Small}
 use Rattle.frame.specs.declared.Frame.{Frame}
@@ -17,6 +19,7 @@ use Rattle.reading.specs.declared.Piece.{Piece}
 use Rattle.reading.specs.declared.ErrorRecord.{ErrorRecord}
 use Rattle.reading.specs.Answers.{frame_for, mode_for}
 use Rattle.answer.specs.Asking.{asked_answer, DecidedBy}
+use Rattle.answer.specs.Decisions.{Admitted}
 use Rattle.laws.specs.AnswerLaws.{Done}
 use Rattle.answer.specs.AskedLaws.{asked_counts, asked_done}
 use Rattle.reading.specs.Written.{over, pairs}
@@ -24,6 +27,7 @@ use Rattle.reading.specs.Exits.{at_exit}
 use Rattle.answer.specs.declared.Asked.{Asked}
 use Rattle.reading.specs.declared.Rooms.{Rooms}
 use Rattle.answer.specs.declared.Decision.{Decision}
+use Rattle.answer.specs.declared.Readable.{Readable}
 use Rattle.reading.specs.Calls.{rooms_of}
 use Rattle.reader.specs.Reads.{ReadBy}
 use Rattle.reader.proofs.Filling.{over_empty}
@@ -56,8 +60,8 @@ module _ (ps : List Piece) (es : List ErrorRecord) (ls ns : List ℕ) where
 
   module _ (t s : List ℕ) (q : Asked) (d : Decision) (decided : DecidedBy t s q rooms d) where
     -- the lists where the call is refused: as they were
-    pub refused : eqb d.answer.number 0 ≡ false → ReadBy t s q ps ps es es ls ls ns ns d.answer
-    refused other = record {
+    pub refused : d.done ≡ None → ReadBy t s q ps ps es es ls ls ns ns d.answer
+    refused none = record {
       answer = decided.answer ∙ ap (asked_answer q t s) rooms_are;
       lists = record {
         pieces = sym (at_refused d.answer.number (pieces t (frame_for t s q.request) (mode_for q.request)) ps other);
@@ -66,21 +70,30 @@ module _ (ps : List Piece) (es : List ErrorRecord) (ls ns : List ℕ) where
         lines = sym (at_refused d.answer.number (pairs (lines t (frame_for t s q.request) (mode_for q.request))) ns other);
       };
     }
+      where
+        other : eqb d.answer.number 0 ≡ false
+        other = ne_eqb d.answer.number 0 (rw none at decided.done)
 
-    module _ (zero : eqb d.answer.number 0 ≡ true) where
+    module _ {x : Readable} (is_done : d.done ≡ Some x) where
+      its : (d.answer.number ≡ 0) × Admitted t (length (chars_from t 0)) s q.request x
+      its = rw is_done at decided.done
+
       is_zero : d.answer.number ≡ 0
-      is_zero = eqb-true d.answer.number 0 zero
+      is_zero = its.0
 
-      framed : d.frame ≡ frame_for t s q.request
-      framed = decided.frame is_zero
+      zero : eqb d.answer.number 0 ≡ true
+      zero = eq-eqb d.answer.number 0 is_zero
 
-      moded : d.mode ≡ mode_for q.request
-      moded = decided.mode is_zero
+      framed : x.frame ≡ frame_for t s q.request
+      framed = its.1.frame
 
-      at_decision : (P : Frame → Mode → Type 0) → P (frame_for t s q.request) (mode_for q.request) → P d.frame d.mode
-      at_decision P p = subst (λ (f : Frame). P f d.mode) (sym framed) (subst (P (frame_for t s q.request)) (sym moded) p)
+      moded : x.mode ≡ mode_for q.request
+      moded = its.1.mode
 
-      pub ready : Ready t d.frame d.mode
+      at_decision : (P : Frame → Mode → Type 0) → P (frame_for t s q.request) (mode_for q.request) → P x.frame x.mode
+      at_decision P p = subst (λ (f : Frame). P f x.mode) (sym framed) (subst (P (frame_for t s q.request)) (sym moded) p)
+
+      pub ready : Ready t x.frame x.mode
       ready = at_decision (Ready t) (record {
         small = done.small;
         pieces = done.pieces;
@@ -93,7 +106,7 @@ module _ (ps : List Piece) (es : List ErrorRecord) (ls ns : List ℕ) where
           done = asked_done t s q rooms decided is_zero
 
       -- the list of errors where their count is 0: as it was, which is no record over the first
-      pub clean : not (eqb d.answer.counts.errors 0) ≡ false → es ≡ over (errors t d.frame d.mode) es
+      pub clean : not (eqb d.answer.counts.errors 0) ≡ false → es ≡ over (errors t x.frame x.mode) es
       unfolding counts_of
       clean none = at_decision (λ f m. es ≡ over (errors t f m) es) (over_empty (errors t (frame_for t s q.request) (mode_for q.request)) es (sym counted ∙ eqb-true d.answer.counts.errors 0 (not-false (eqb d.answer.counts.errors 0) none)))
         where
@@ -101,17 +114,17 @@ module _ (ps : List Piece) (es : List ErrorRecord) (ls ns : List ℕ) where
           counted = ap (λ (c : Counts). c.errors) (asked_counts t s q rooms decided is_zero)
 
       -- the lists where the call is done: the records over the first
-      pub finished : (ps' : List Piece) (es' : List ErrorRecord) (ls' ns' : List ℕ) → ps' ≡ over (pieces t d.frame d.mode) ps → es' ≡ over (errors t d.frame d.mode) es
-          → ls' ≡ over (pairs (places t d.frame d.mode)) ls → ns' ≡ over (pairs (lines t d.frame d.mode)) ns → ReadBy t s q ps ps' es es' ls ls' ns ns' d.answer
+      pub finished : (ps' : List Piece) (es' : List ErrorRecord) (ls' ns' : List ℕ) → ps' ≡ over (pieces t x.frame x.mode) ps → es' ≡ over (errors t x.frame x.mode) es
+          → ls' ≡ over (pairs (places t x.frame x.mode)) ls → ns' ≡ over (pairs (lines t x.frame x.mode)) ns → ReadBy t s q ps ps' es es' ls ls' ns ns' d.answer
       finished ps' es' ls' ns' p e l n = record {
         answer = decided.answer ∙ ap (asked_answer q t s) rooms_are;
         lists = record {
-          pieces = p ∙ the (λ f m. pieces t f m) (λ x. over x ps) ∙ sym (at_done d.answer.number (pieces t (frame_for t s q.request) (mode_for q.request)) ps zero);
-          errors = e ∙ the (λ f m. errors t f m) (λ x. over x es) ∙ sym (at_done d.answer.number (errors t (frame_for t s q.request) (mode_for q.request)) es zero);
-          places = l ∙ the (λ f m. places t f m) (λ x. over (pairs x) ls) ∙ sym (at_done d.answer.number (pairs (places t (frame_for t s q.request) (mode_for q.request))) ls zero);
-          lines = n ∙ the (λ f m. lines t f m) (λ x. over (pairs x) ns) ∙ sym (at_done d.answer.number (pairs (lines t (frame_for t s q.request) (mode_for q.request))) ns zero);
+          pieces = p ∙ the (λ f m. pieces t f m) (λ y. over y ps) ∙ sym (at_done d.answer.number (pieces t (frame_for t s q.request) (mode_for q.request)) ps zero);
+          errors = e ∙ the (λ f m. errors t f m) (λ y. over y es) ∙ sym (at_done d.answer.number (errors t (frame_for t s q.request) (mode_for q.request)) es zero);
+          places = l ∙ the (λ f m. places t f m) (λ y. over (pairs y) ls) ∙ sym (at_done d.answer.number (pairs (places t (frame_for t s q.request) (mode_for q.request))) ls zero);
+          lines = n ∙ the (λ f m. lines t f m) (λ y. over (pairs y) ns) ∙ sym (at_done d.answer.number (pairs (lines t (frame_for t s q.request) (mode_for q.request))) ns zero);
         };
       }
         where
-          the : {X Y : Type 0} (g : Frame → Mode → X) (k : X → Y) → k (g d.frame d.mode) ≡ k (g (frame_for t s q.request) (mode_for q.request))
-          the g k = ap (λ (f : Frame). k (g f d.mode)) framed ∙ ap (λ (m : Mode). k (g (frame_for t s q.request) m)) moded
+          the : {X Y : Type 0} (g : Frame → Mode → X) (k : X → Y) → k (g x.frame x.mode) ≡ k (g (frame_for t s q.request) (mode_for q.request))
+          the g k = ap (λ (f : Frame). k (g f x.mode)) framed ∙ ap (λ (m : Mode). k (g (frame_for t s q.request) m)) moded

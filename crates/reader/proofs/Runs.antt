@@ -1,13 +1,12 @@
--- Where a run over a text stands: the records so far, and the turn that says what is left. Together they are the whole list, a turn at a time.
+-- Where a run over a text stands: the records so far, and what is left to come at a cursor. Together they are the whole list, a turn at a time.
 -- Rests on what a turn says (turns' Turns and TurnLaws), and on the laws of a list filled from the front.
+use Rattle.std.specs.Prelude.{Option, None, Some}
 use mathlib.Core.Path.{◌≡◌, refl, sym, ap, ◌∙◌}
-use mathlib.Core.Bool.{Bool, true, false}
 use mathlib.Core.List.{List, [], ◌∷◌, ◌++◌, append-nil}
 use Prim.Native.Nat.{ℕ, ◌+◌, ◌<◌, ◌≤◌}
 use native.Mathlib.Omega.{arith}
 use lib.ListN.{length, length-append}
 use lib.Seq.{append_snoc}
-use Rattle.utf8.specs.Choice.{pick}
 use Rattle.frame.specs.declared.Frame.{Frame}
 use Rattle.frame.specs.declared.Mode.{Mode}
 use Rattle.reading.specs.Lists.{pieces, errors}
@@ -22,17 +21,8 @@ use Rattle.turns.specs.TurnLaws.{first_pieces, first_faults, posted_length, post
 use Rattle.reader.specs.Lent.{FilledBy}
 use Rattle.reader.proofs.Filling.{with_one}
 
--- a choice by a test that holds, or fails
-chosen : {A : Type 0} {t : Bool} (a b : A) → t ≡ true → pick t a b ≡ a
-unfolding pick
-chosen a b h = ap (λ (x : Bool). pick x a b) h
-
-other : {A : Type 0} {t : Bool} (a b : A) → t ≡ false → pick t a b ≡ b
-unfolding pick
-other a b h = ap (λ (x : Bool). pick x a b) h
-
--- A course of turns: a turn with more has a note, and the next is asked from its key on. Notes are posted to the records so far, one at a time.
-pub record Course (X : Type 0) {Turn Key : Type 0} (more : Turn → Bool) (from : Turn → Key) (first : Key) : Type 1 where
+-- A course of turns: a turn has a note, and the next is asked from its key on. Notes are posted to the records so far, one at a time.
+pub record Course (X : Type 0) {Turn Key : Type 0} (from : Turn → Key) (first : Key) : Type 1 where
   pub Note : Type 0
   pub all : List X
   pub note : Turn → Note
@@ -43,53 +33,43 @@ pub record Course (X : Type 0) {Turn Key : Type 0} (more : Turn → Bool) (from 
   pub post_one : (es : List X) (n : Note) (ns : List Note) → post es (n ∷ ns) ≡ post (one es n) ns
   pub post_length : (es : List X) (ns : List Note) → length (post es ns) ≡ length es + length ns
   pub starts : post [] (at first) ≡ all
-  pub Next : Key → Turn → Type 0
-  pub says : (k : Key) (r : Turn) → Next k r → pick (more r) (note r ∷ at (from r)) [] ≡ at k
+  pub Next : Key → Option Turn → Type 0
+  pub last : (k : Key) → Next k None → at k ≡ []
+  pub says : (k : Key) (r : Turn) → Next k (Some r) → at k ≡ note r ∷ at (from r)
   pub Asked : Key → Type 0
-  pub asked : (k : Key) (r : Turn) → Next k r → Asked (from r)
+  pub asked : (k : Key) (r : Turn) → Next k (Some r) → Asked (from r)
 
-module _ {X Turn Key : Type 0} {more : Turn → Bool} {from : Turn → Key} {first : Key} (c : Course X more from first) where
-  -- the notes that a turn leaves
-  abbrev pub left : Turn → List c.Note
-  left r = pick (more r) (c.note r ∷ c.at (from r)) []
+module _ {X Turn Key : Type 0} {from : Turn → Key} {first : Key} (c : Course X from first) where
+  pub record Run (es : List X) (k : Key) : Type 0 where
+    pub whole : c.all ≡ c.post es (c.at k)
+    pub fresh : c.Asked k
 
-  pub record Run (es : List X) (turn : Turn) : Type 0 where
-    pub whole : c.all ≡ c.post es (left turn)
-    pub fresh : c.Asked (from turn)
-
-  pub begun : (r : Turn) → c.Next first r → Run [] r
-  begun r next = record { whole = sym (ap (c.post []) (c.says first r next) ∙ c.starts); fresh = c.asked first r next }
+  pub begun : c.Asked first → Run [] first
+  begun h = record { whole = sym c.starts; fresh = h }
 
   -- one record is one more
   pub one_length : (es : List X) (n : c.Note) → length (c.one es n) ≡ length es + 1
   one_length es n = ap length (sym (c.post_one es n [] ∙ c.post_none (c.one es n))) ∙ c.post_length es (n ∷ [])
 
-  module _ {es : List X} {t : Turn} (x : Run es t) where
-    pub ended : more t ≡ false → (ys : List X) → FilledBy c.all ys (over es ys) (length es)
+  module _ {es : List X} {k : Key} (x : Run es k) where
+    pub ended : c.Next k None → (ys : List X) → FilledBy c.all ys (over es ys) (length es)
     ended none ys = record { count = ap length (sym is); list = ap (λ l. over l ys) (sym is) }
       where
         is : c.all ≡ es
-        is = x.whole ∙ ap (c.post es) (other (c.note t ∷ c.at (from t)) [] none) ∙ c.post_none es
+        is = x.whole ∙ ap (c.post es) (c.last k none) ∙ c.post_none es
 
-    pub few : length es ≤ length c.all
-    few = omega (arith, ap length x.whole, c.post_length es (left t))
-
-    module _ (goes : more t ≡ true) where
+    module _ (r : Turn) (next : c.Next k (Some r)) where
       pub room : length es < length c.all
-      room = omega (arith, ap length x.whole, c.post_length es (left t), ap length (chosen (c.note t ∷ c.at (from t)) [] goes))
+      room = omega (arith, ap length x.whole, c.post_length es (c.at k), ap length (c.says k r next))
 
-      module _ (r : Turn) (next : c.Next (from t) r) where
-        then : left t ≡ c.note t ∷ left r
-        then = chosen (c.note t ∷ c.at (from t)) [] goes ∙ ap (λ l. c.note t ∷ l) (sym (c.says (from t) r next))
+      pub goes_on : Run (c.one es (c.note r)) (from r)
+      goes_on = record { whole = x.whole ∙ ap (c.post es) (c.says k r next) ∙ c.post_one es (c.note r) (c.at (from r)); fresh = c.asked k r next }
 
-        pub goes_on : Run (c.one es (c.note t)) r
-        goes_on = record { whole = x.whole ∙ ap (c.post es) then ∙ c.post_one es (c.note t) (left r); fresh = c.asked (from t) r next }
-
-        pub fewer : length (left r) < length (left t)
-        fewer = omega (arith, ap length then)
+      pub fewer : length (c.at (from r)) < length (c.at k)
+      fewer = omega (arith, ap length (c.says k r next))
 
 -- PIECES: those so far, then the turn's
-abbrev pub piece_course : (t : List ℕ) → Frame → Mode → Course Piece {Turn = PieceTurn} (λ r. r.more) (λ r. r.cursor) (first_cursor t)
+abbrev pub piece_course : (t : List ℕ) → Frame → Mode → Course Piece {Turn = PieceTurn} (λ r. r.cursor) (first_cursor t)
 piece_course t f m = record {
   Note = Piece;
   all = pieces t f m;
@@ -102,7 +82,8 @@ piece_course t f m = record {
   post_length = length-append;
   starts = first_pieces t f m;
   Next = PieceNext t f m;
-  says = λ c r next. next.says;
+  last = λ c next. sym next.says;
+  says = λ c r next. sym next.says;
   Asked = Fresh;
   asked = λ c r next. next.fresh;
 }
@@ -119,7 +100,7 @@ pub posted_one : (es : List ErrorRecord) (n : Note) (ns : List Note) → posted 
 unfolding posted
 posted_one es n ns = refl
 
-abbrev pub fault_course : (t : List ℕ) → Frame → Mode → Course ErrorRecord {Turn = FaultTurn} {Key = Slot} (λ r. r.more) (λ r. (r.cursor, r.slot)) (first_cursor t, 0)
+abbrev pub fault_course : (t : List ℕ) → Frame → Mode → Course ErrorRecord {Turn = FaultTurn} {Key = Slot} (λ r. (r.cursor, r.slot)) (first_cursor t, 0)
 fault_course t f m = record {
   Note = Note;
   all = errors t f m;
@@ -132,7 +113,8 @@ fault_course t f m = record {
   post_length = posted_length;
   starts = ap (λ l. posted [] (notes t f l)) (first_faults t f m) ∙ posted_errors t f m;
   Next = λ k r. FaultNext t f m k.0 k.1 r;
-  says = λ k r next. next.says;
+  last = λ k next. sym next.says;
+  says = λ k r next. sym next.says;
   Asked = λ k. Fresh k.0 × (k.1 ≤ 13);
   asked = λ k r next. (next.fresh, next.slots);
 }

@@ -1,13 +1,22 @@
--- A list without one of its elements: a shift by one keeps it, and a record stored at the front then stands before it.
-use mathlib.Core.Path.{◌≡◌, refl, ap, ◌∙◌, sym}
-use mathlib.Core.List.{List, [], ◌∷◌, ◌++◌}
-use Prim.Native.Nat.{ℕ, zero, suc, ◌<◌, ◌-◌}
-use native.Mathlib.Omega.{arith}
+-- A list whose first n elements have moved back by one, with a record stored at the front.
+use mathlib.Core.Path.{◌≡◌, refl, ap, ◌∙◌}
+use mathlib.Core.List.{List, [], ◌∷◌}
+use Prim.Native.Nat.{ℕ, zero, suc, ◌<◌, ◌+◌, ◌-◌}
 use native.Mathlib.Nat.{not-suc-le-zero, le_of_suc-le-suc}
-use native.Mathlib.Numerals.{add-one}
-use lib.ListN.{length, take, drop, set, get_or}
+use native.Mathlib.Omega.{arith}
+use lib.ListN.{length, set, get_or}
+use Rattle.std.specs.List.{copy_within}
 use Rattle.reader.specs.Lent.{in_front}
 
+pub shifted : {X : Type 0} (ys : List X) (n : ℕ) (e : X) → n < length ys → set (copy_within ys 0 n 1) 0 e ≡ in_front ys n e
+unfolding in_front
+shifted [] n e h = absurd (omega (arith, h))
+shifted (x ∷ xs) n e h =
+    let k : n - 0 ≡ n = omega arith in
+    let m : 1 + n ≡ n + 1 = omega arith in
+    rw (k, m)
+
+-- The same by steps: an element that moves back by one leaves the rest as it is.
 module _ {X : Type 0} where
   -- the list without its element i
   abbrev pub without : List X → ℕ → List X
@@ -28,17 +37,3 @@ module _ {X : Type 0} where
   shifts l ys (suc j) n d p h e =
       let k : suc j - 1 ≡ j = omega arith in
       rw k (moved l j d h ∙ e)
-
-  front : (l : List X) (e : X) → 0 < length l → set l 0 e ≡ e ∷ without l 0
-  front [] e h = absurd (not-suc-le-zero h)
-  front (x ∷ xs) e h = refl
-
-  without_is : (l : List X) (n : ℕ) → n < length l → without l n ≡ take n l ++ drop (suc n) l
-  without_is [] n h = absurd (not-suc-le-zero h)
-  without_is (x ∷ xs) zero h = refl
-  without_is (x ∷ xs) (suc n) h = ap (λ (r : List X). x ∷ r) (without_is xs n (le_of_suc-le-suc h))
-
-  -- a record at the front of a list whose first n have moved back by one
-  pub shifted : (l ys : List X) (n : ℕ) (e : X) → 0 < length l → n < length ys → without l 0 ≡ without ys n → set l 0 e ≡ in_front ys n e
-  unfolding in_front
-  shifted l ys n e h k same = front l e h ∙ ap (λ (r : List X). e ∷ r) (same ∙ without_is ys n k ∙ ap (λ (m : ℕ). take n ys ++ drop m ys) (sym (add-one n)))

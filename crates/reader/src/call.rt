@@ -8,9 +8,6 @@ use answer::decide::{decide_by, fresh};
 use reading::{Answer, ErrorRecord, Piece, Request, Rooms};
 use spans::{fill_lines, fill_places};
 
-// The number of a call that is done.
-const DONE: u8 = 0;
-
 // Reads a text, of which something may be known, into four lists; a span takes two numbers of its list. A refusal changes no list.
 // A text whose count of errors is 0 is not read for them.
 pub fn read_by(
@@ -32,9 +29,9 @@ pub fn read_by(
     };
     let decision = decide_by(text, snippet, asked, rooms);
     let answer = decision.answer;
-    if answer.number == DONE {
-        let frame = decision.frame;
-        let mode = decision.mode;
+    if let Some(readable) = decision.done {
+        let frame = readable.frame;
+        let mode = readable.mode;
         fill_pieces(text, frame, mode, pieces);
         if answer.counts.errors != 0 {
             fill_errors(text, frame, mode, errors);
@@ -57,6 +54,5 @@ pub fn read(
 ) -> Answer
     ensures { Read text.now snippet.now request pieces.old pieces.new errors.old errors.new places.old places.new lines.old lines.new result }
 {
-    let asked = fresh(request);
-    read_by(text, snippet, asked, pieces, errors, places, lines)
+    read_by(text, snippet, fresh(request), pieces, errors, places, lines)
 }

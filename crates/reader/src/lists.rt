@@ -8,21 +8,12 @@ use frame::{Frame, Mode};
 use reading::{ErrorRecord, Piece};
 use turns::{first_cursor, next_fault, next_piece};
 
-// Adds a piece at the back of the first `n`, and says how many there are.
-pub fn push_piece(pieces: &mut [Piece], n: usize, piece: Piece) -> usize
-    requires { n < length pieces.old }
-    ensures { (result ≡ n + 1) × (pieces.new ≡ set pieces.old n piece) }
+// Adds one at the back of the first `n`, and says how many there are.
+pub fn push<T: Copy>(list: &mut [T], n: usize, item: T) -> usize
+    requires { n < length list.old }
+    ensures { (result ≡ n + 1) × (list.new ≡ set list.old n item) }
 {
-    pieces[n] = piece;
-    n + 1
-}
-
-// Adds a record at the back of the first `n`, and says how many there are.
-pub fn push_back(errors: &mut [ErrorRecord], n: usize, record: ErrorRecord) -> usize
-    requires { n < length errors.old }
-    ensures { (result ≡ n + 1) × (errors.new ≡ set errors.old n «record») }
-{
-    errors[n] = record;
+    list[n] = item;
     n + 1
 }
 
@@ -31,12 +22,7 @@ pub fn insert_front(errors: &mut [ErrorRecord], n: usize, record: ErrorRecord) -
     requires { n < length errors.old }
     ensures { (result ≡ n + 1) × (errors.new ≡ in_front errors.old n «record») }
 {
-    let mut i = n;
-    while i > 0 {
-        let j = i - 1;
-        errors[i] = errors[j];
-        i = j;
-    }
+    errors.copy_within(0..n, 1);
     errors[0] = record;
     n + 1
 }
@@ -49,7 +35,7 @@ pub fn put(errors: &mut [ErrorRecord], n: usize, front: bool, record: ErrorRecor
     if front {
         insert_front(errors, n, record)
     } else {
-        push_back(errors, n, record)
+        push(errors, n, record)
     }
 }
 
@@ -58,11 +44,11 @@ pub fn fill_pieces(text: &[u8], frame: Frame, mode: Mode, pieces: &mut [Piece]) 
     requires { Small text.now frame × (length (pieces_in text.now frame mode) ≤ length pieces.old) }
     ensures { FilledBy (pieces_in text.now frame mode) pieces.old pieces.new result }
 {
-    let mut turn = next_piece(text, frame, mode, first_cursor(text));
+    let mut cursor = first_cursor(text);
     let mut n = 0;
-    while turn.more {
-        n = push_piece(pieces, n, turn.piece);
-        turn = next_piece(text, frame, mode, turn.cursor);
+    while let Some(turn) = next_piece(text, frame, mode, cursor) {
+        n = push(pieces, n, turn.piece);
+        cursor = turn.cursor;
     }
     n
 }
@@ -72,11 +58,13 @@ pub fn fill_errors(text: &[u8], frame: Frame, mode: Mode, errors: &mut [ErrorRec
     requires { Small text.now frame × (length (errors_in text.now frame mode) ≤ length errors.old) }
     ensures { FilledBy (errors_in text.now frame mode) errors.old errors.new result }
 {
-    let mut turn = next_fault(text, frame, mode, first_cursor(text), 0);
+    let mut cursor = first_cursor(text);
+    let mut slot = 0;
     let mut n = 0;
-    while turn.more {
+    while let Some(turn) = next_fault(text, frame, mode, cursor, slot) {
         n = put(errors, n, turn.front, turn.record);
-        turn = next_fault(text, frame, mode, turn.cursor, turn.slot);
+        cursor = turn.cursor;
+        slot = turn.slot;
     }
     n
 }

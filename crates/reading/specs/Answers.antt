@@ -1,17 +1,15 @@
 -- The answer of the public call, and its refusals.
-use Rattle.std.specs.Prelude.{ℕ, ◌-◌, Bool, true, false, not, List, [], ◌∷◌, eqb, leb, ltb, length, get_or}
+use Rattle.std.specs.Prelude.{ℕ, ◌-◌, Bool, true, false, not, List, [], ◌∷◌, eqb, leb, ltb, length, get_or, Option, Some, None}
 use Prim.Native.Char.{code}
 use Rattle.utf8.specs.Choice.{pick, either}
 use Rattle.utf8.specs.Utf8.{valid_prefix}
 use Rattle.frame.specs.Frames.{frame_of}
 use Rattle.frame.specs.declared.Frame.{Frame}
-use Rattle.frame.specs.declared.Style.{Style}
 use Rattle.frame.specs.declared.Mode.{Mode}
 use Rattle.reading.specs.Lists.{pieces, counts_of}
 use Rattle.reading.specs.Moves.{moves}
 use Rattle.reading.specs.Wants.{wants}
 use Rattle.reading.specs.declared.Counts.{Counts}
-use Rattle.reading.specs.declared.Hashes.{Hashes}
 use Rattle.reading.specs.declared.Request.{Request}
 use Rattle.reading.specs.declared.Rooms.{Rooms}
 use Rattle.reading.specs.declared.Answer.{Answer}
@@ -30,13 +28,13 @@ abbrev pub answered : ℕ → ℕ → Counts → ℕ → ℕ → Answer
 answered number at counts arguments moves = record { number = number; place = at; counts = counts; arguments = arguments; moves = moves }
 
 -- 2: "style above 255 hashes, or a snippet without a style" (R2.2)
-abbrev pub is_styled : Hashes → Bool → Bool
-is_styled Hashes.Plain given = pick given false true
-is_styled (Hashes.Raw h) given = leb h 255
+abbrev pub is_styled : Option ℕ → Bool → Bool
+is_styled None given = pick given false true
+is_styled (Some h) given = leb h 255
 
-abbrev pub style_of : Hashes → Style
-style_of Hashes.Plain = Style.Plain
-style_of (Hashes.Raw h) = pick (leb h 255) (Style.Raw h) Style.Plain
+abbrev pub style_of : Option ℕ → Option ℕ
+style_of None = None
+style_of (Some h) = pick (leb h 255) (Some h) None
 
 -- 3: "text over 65,535 bytes or snippet over 66,048" (R2.3)
 unfoldable pub is_long : List ℕ → Bool → List ℕ → Bool

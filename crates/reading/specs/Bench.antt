@@ -1,6 +1,6 @@
 -- The template bench of document 01, B1 to B15, further cases, numbers that are too large, notices and refusals: tables with every field of every record, one statement
 -- that the checker computes. Format, no style, no snippet, where nothing else is said.
-use Rattle.std.specs.Prelude.{ℕ, ◌≡◌, refl, true, false, List, [], ◌∷◌, ◌++◌}
+use Rattle.std.specs.Prelude.{ℕ, ◌≡◌, refl, true, false, List, [], ◌∷◌, ◌++◌, Some, None}
 use Prim.Native.String.{String}
 use Rattle.utf8.specs.Choice.{pick, within}
 use Rattle.utf8.specs.Utf8.{low, high, sequence_of, char_of, sequence_at, decode, peek_at, valid, valid_prefix}
@@ -20,6 +20,7 @@ use Rattle.scan.specs.declared.Count.{Count}
 use Rattle.scan.specs.declared.Numeral.{Numeral}
 use Rattle.placeholder.specs.Places.{is_r, raw_place, word_place, place_read}
 use Rattle.placeholder.specs.Parts.{is_align, fill_read, align_read, sign_read, plain_width, width_read, after_dot, precision_read}
+use Rattle.placeholder.specs.Filling.{filling}
 use Rattle.placeholder.specs.Types.{hex_type, is_hex_or_hash, debug_type, word_type, type_read}
 use Rattle.placeholder.specs.Format.{format_read}
 use Rattle.placeholder.specs.Specs.{diagnostic_type, spec_read}
@@ -40,7 +41,6 @@ use Rattle.reading.specs.Lists.{gather, pieces, front_only, back_only, reversed,
 use Rattle.reading.specs.Answers.{no_counts as none_counted, answered, is_long, is_broken, ends_in_newline, lacks_newline, mode_of, mode_for, frame_for, first_of, answer_by, answer_of}
 use Rattle.reading.specs.Cases.{Case, rooms256, all_given, bytes_of, span, range, some, none, quoted, unquoted, lit, arg, named, spec, typed, empty, ask, moves_of, counts, rooms, done, bare, source}
 use Rattle.reading.specs.declared.Answer.{Answer}
-use Rattle.reading.specs.declared.Hashes.{Hashes}
 
 -- document 01's table
 abbrev pub table : List Case
@@ -53,16 +53,16 @@ table =
     bare 0 "{}" (arg 0 2 (Place.Next 0) (span 2 2) (empty 1) ∷ []) [] ∷
     -- B4: star 0, next 1; next 2
     bare 0 "{:.*}{}"
-    (arg 0 5 (Place.Next 1) (span 2 2) (spec Fill.Absent Align.Unknown false Count.Implied none (Count.ByStar 0) (some 3 5) (range 4 4) none) ∷
+    (arg 0 5 (Place.Next 1) (span 2 2) (spec None Align.Unknown false Count.Implied none (Count.ByStar 0) (some 3 5) (range 4 4) none) ∷
     arg 5 7 (Place.Next 2) (span 7 7) (empty 6) ∷
     []) [] ∷
     -- B5: width by argument 0, span 3..5, no zero flag
     bare 0 "{:0$}"
-    (arg 0 5 (Place.Next 0) (span 2 2) (spec Fill.Absent Align.Unknown false (Count.ByArgument (Numeral.Within 0)) (some 3 5) Count.Implied none (range 4 4) none) ∷
+    (arg 0 5 (Place.Next 0) (span 2 2) (spec None Align.Unknown false (Count.ByArgument (Numeral.Within 0)) (some 3 5) Count.Implied none (range 4 4) none) ∷
     []) [] ∷
     -- B6: zero flag, width implied
     bare 0 "{:0}"
-    (arg 0 4 (Place.Next 0) (span 2 2) (spec Fill.Absent Align.Unknown true Count.Implied none Count.Implied none (range 3 3) none) ∷ []) [] ∷
+    (arg 0 4 (Place.Next 0) (span 2 2) (spec None Align.Unknown true Count.Implied none Count.Implied none (range 3 3) none) ∷ []) [] ∷
     -- B7: at 65535, clean
     bare 0 "{65535}" (arg 0 7 (Place.At (Numeral.Within 65535)) (span 2 7) (empty 6) ∷ []) [] ∷
     -- B8: over; kind 7, span 2..8 (it takes in the next character)
@@ -70,7 +70,7 @@ table =
     -- B9: fill `}`, left; kind 3 at 4..4, second 3..4
     bare 0 "{:}<"
     (arg 0 4 (Place.Next 0) (span 2 2)
-    (spec (Fill.Present 0x7D (span 3 4)) Align.Left false Count.Implied none Count.Implied none (range 4 4) none) ∷
+    (spec (filling 0x7D (span 3 4)) Align.Left false Count.Implied none Count.Implied none (range 4 4) none) ∷
     []) (error_of 3 (span 4 4) (some 3 4) unquoted none 0 ∷ []) ∷
     -- B10: kinds 9 (5..6), 2 (5..5), 1 (6..7)
     bare 0 "{foo?}" (arg 0 5 (named 1 4) (span 2 5) (empty 4) ∷ [])
@@ -141,7 +141,7 @@ further =
     (bare_error 13 (span 2 6) 0 ∷ error_of 2 (span 4 4) (some 1 2) (quoted 3 4) none 0 ∷ []) ∷
     -- in Format it is, and the word is the type
     bare 0 "{a:.b}"
-    (arg 0 6 (named 1 2) (span 2 3) (spec Fill.Absent Align.Unknown false Count.Implied none Count.Implied (some 4 5) (range 4 5) (some 5 6)) ∷ []) [] ∷
+    (arg 0 6 (named 1 2) (span 2 3) (spec None Align.Unknown false Count.Implied none Count.Implied (some 4 5) (range 4 5) (some 5 6)) ∷ []) [] ∷
     -- no whitespace is skipped before the `}` of a field: no kind 13
     bare 0 "{a.b:x }" (arg 0 6 (named 1 2) (span 2 3) (empty 2) ∷ lit 6 7 ∷ [])
     (error_of 2 (span 3 3) (some 1 2) (quoted 2 3) none 0 ∷ bare_error 1 (span 8 9) 2 ∷ []) ∷
@@ -172,7 +172,7 @@ further =
     record {
       text = bytes_of "a\n";
       snippet = bytes_of "r\"a\"";
-      request = ask 0 (Hashes.Raw 0) true true;
+      request = ask 0 (Some 0) true true;
       answer = done 2 (lit 0 2 ∷ []) [] [] (span 2 3 ∷ span 4 3 ∷ []);
       pieces = lit 0 2 ∷ [];
       errors = [];
@@ -192,28 +192,28 @@ large =
     (error_of 7 (span 2 43) none (quoted 1 41) none 0 ∷ []) ∷
     -- a width, without its flag and with it
     bare 0 "{:65536}"
-    (arg 0 8 (Place.Next 0) (span 2 2) (spec Fill.Absent Align.Unknown false (Count.Fixed Numeral.Over) (some 3 8) Count.Implied none (range 7 7) none) ∷ [])
+    (arg 0 8 (Place.Next 0) (span 2 2) (spec None Align.Unknown false (Count.Fixed Numeral.Over) (some 3 8) Count.Implied none (range 7 7) none) ∷ [])
     (error_of 7 (span 3 9) none (quoted 2 7) none 0 ∷ []) ∷
     bare 0 "{:65535}"
-    (arg 0 8 (Place.Next 0) (span 2 2) (spec Fill.Absent Align.Unknown false (Count.Fixed (Numeral.Within 65535)) (some 3 8) Count.Implied none (range 7 7) none) ∷ []) [] ∷
+    (arg 0 8 (Place.Next 0) (span 2 2) (spec None Align.Unknown false (Count.Fixed (Numeral.Within 65535)) (some 3 8) Count.Implied none (range 7 7) none) ∷ []) [] ∷
     -- a `$` after it is taken: by argument, and the flag beside it
     bare 0 "{:65536$}"
-    (arg 0 9 (Place.Next 0) (span 2 2) (spec Fill.Absent Align.Unknown false (Count.ByArgument Numeral.Over) (some 3 9) Count.Implied none (range 8 8) none) ∷ [])
+    (arg 0 9 (Place.Next 0) (span 2 2) (spec None Align.Unknown false (Count.ByArgument Numeral.Over) (some 3 9) Count.Implied none (range 8 8) none) ∷ [])
     (error_of 7 (span 3 9) none (quoted 2 7) none 0 ∷ []) ∷
     bare 0 "{:065536$}"
-    (arg 0 10 (Place.Next 0) (span 2 2) (spec Fill.Absent Align.Unknown true (Count.ByArgument Numeral.Over) (some 4 10) Count.Implied none (range 9 9) none) ∷ [])
+    (arg 0 10 (Place.Next 0) (span 2 2) (spec None Align.Unknown true (Count.ByArgument Numeral.Over) (some 4 10) Count.Implied none (range 9 9) none) ∷ [])
     (error_of 7 (span 4 10) none (quoted 3 8) none 0 ∷ []) ∷
     -- a precision
     bare 0 "{:.65536}"
-    (arg 0 9 (Place.Next 0) (span 2 2) (spec Fill.Absent Align.Unknown false Count.Implied none (Count.Fixed Numeral.Over) (some 3 9) (range 8 8) none) ∷ [])
+    (arg 0 9 (Place.Next 0) (span 2 2) (spec None Align.Unknown false Count.Implied none (Count.Fixed Numeral.Over) (some 3 9) (range 8 8) none) ∷ [])
     (error_of 7 (span 4 10) none (quoted 3 8) none 0 ∷ []) ∷
     bare 0 "{:.99999$}"
-    (arg 0 10 (Place.Next 0) (span 2 2) (spec Fill.Absent Align.Unknown false Count.Implied none (Count.ByArgument Numeral.Over) (some 3 10) (range 9 9) none) ∷ [])
+    (arg 0 10 (Place.Next 0) (span 2 2) (spec None Align.Unknown false Count.Implied none (Count.ByArgument Numeral.Over) (some 3 10) (range 9 9) none) ∷ [])
     (error_of 7 (span 4 10) none (quoted 3 8) none 0 ∷ []) ∷
     -- all three at once, in their order
     bare 0 "{65536:65537$.65538}"
     (arg 0 20 (Place.At Numeral.Over) (span 2 7)
-    (spec Fill.Absent Align.Unknown false (Count.ByArgument Numeral.Over) (some 8 14) (Count.Fixed Numeral.Over) (some 14 20) (range 19 19) none) ∷
+    (spec None Align.Unknown false (Count.ByArgument Numeral.Over) (some 8 14) (Count.Fixed Numeral.Over) (some 14 20) (range 19 19) none) ∷
     [])
     (error_of 7 (span 2 8) none (quoted 1 6) none 0 ∷ error_of 7 (span 8 14) none (quoted 7 12) none 0 ∷ error_of 7 (span 15 21) none (quoted 14 19) none 0 ∷ []) ∷
     -- a place takes no `$`
@@ -269,23 +269,23 @@ expectations (x ∷ xs) = x.expected ∷ expectations xs
 -- each refusal, and the order of those that a call can meet together; 3 takes a text longer than a case
 abbrev pub refused : List Asked
 refused =
-    asked (answer_of [] [] (ask 3 Hashes.Plain true false) rooms256) (answered 1 0 none_counted 0 0) ∷
-    asked (answer_of (0xFF ∷ []) [] (ask 0 Hashes.Plain true false) rooms256) (answered 2 0 none_counted 0 0) ∷
-    asked (answer_of [] [] (ask 0 (Hashes.Raw 256) false false) rooms256) (answered 2 0 none_counted 0 0) ∷
-    asked (answer_of (0x61 ∷ 0xFF ∷ []) [] (ask 0 Hashes.Plain false true) rooms256) (answered 4 1 none_counted 0 0) ∷
-    asked (answer_of (bytes_of "a") [] (ask 0 Hashes.Plain false true) (rooms 0 0 0 0)) (answered 5 0 none_counted 0 0) ∷
-    asked (answer_of (bytes_of "{a.b}") [] (ask 0 Hashes.Plain false false) (rooms 0 1 0 0)) (answered 6 0 (counts 1 2 0 0) 0 0) ∷
-    asked (answer_of (bytes_of "{a.b}") [] (ask 0 Hashes.Plain false false) (rooms 1 1 0 0)) (answered 7 0 (counts 1 2 0 0) 0 0) ∷
-    asked (answer_of (bytes_of "{}}") (bytes_of "r\"{}}\"") (ask 0 (Hashes.Raw 0) true false) (rooms 1 0 0 0)) (answered 7 0 (counts 1 1 1 0) 0 0) ∷
-    asked (answer_of (bytes_of "{}") (bytes_of "r\"{}\"") (ask 0 (Hashes.Raw 0) true false) (rooms 1 0 0 0)) (answered 8 0 (counts 1 0 1 1) 0 0) ∷
-    asked (answer_of (bytes_of "{}") (bytes_of "r\"{}\"") (ask 0 (Hashes.Raw 0) true false) (rooms 1 0 1 0)) (answered 9 0 (counts 1 0 1 1) 0 0) ∷
+    asked (answer_of [] [] (ask 3 None true false) rooms256) (answered 1 0 none_counted 0 0) ∷
+    asked (answer_of (0xFF ∷ []) [] (ask 0 None true false) rooms256) (answered 2 0 none_counted 0 0) ∷
+    asked (answer_of [] [] (ask 0 (Some 256) false false) rooms256) (answered 2 0 none_counted 0 0) ∷
+    asked (answer_of (0x61 ∷ 0xFF ∷ []) [] (ask 0 None false true) rooms256) (answered 4 1 none_counted 0 0) ∷
+    asked (answer_of (bytes_of "a") [] (ask 0 None false true) (rooms 0 0 0 0)) (answered 5 0 none_counted 0 0) ∷
+    asked (answer_of (bytes_of "{a.b}") [] (ask 0 None false false) (rooms 0 1 0 0)) (answered 6 0 (counts 1 2 0 0) 0 0) ∷
+    asked (answer_of (bytes_of "{a.b}") [] (ask 0 None false false) (rooms 1 1 0 0)) (answered 7 0 (counts 1 2 0 0) 0 0) ∷
+    asked (answer_of (bytes_of "{}}") (bytes_of "r\"{}}\"") (ask 0 (Some 0) true false) (rooms 1 0 0 0)) (answered 7 0 (counts 1 1 1 0) 0 0) ∷
+    asked (answer_of (bytes_of "{}") (bytes_of "r\"{}\"") (ask 0 (Some 0) true false) (rooms 1 0 0 0)) (answered 8 0 (counts 1 0 1 1) 0 0) ∷
+    asked (answer_of (bytes_of "{}") (bytes_of "r\"{}\"") (ask 0 (Some 0) true false) (rooms 1 0 1 0)) (answered 9 0 (counts 1 0 1 1) 0 0) ∷
     -- the first notice with room for one line: by the same count
-    asked (answer_of (bytes_of "{:\n x}") (bytes_of "r\"{:\n x}\"") (ask 2 (Hashes.Raw 0) true false) (rooms 1 0 1 1)) (answered 9 0 (counts 1 0 1 2) 0 0) ∷
+    asked (answer_of (bytes_of "{:\n x}") (bytes_of "r\"{:\n x}\"") (ask 2 (Some 0) true false) (rooms 1 0 1 1)) (answered 9 0 (counts 1 0 1 2) 0 0) ∷
     []
 
 -- how many arguments a text's pieces want, no style and no snippet
 abbrev pub wanted : ℕ → String → ℕ
-wanted mode t = let q = ask mode Hashes.Plain false false in wants (pieces (bytes_of t) (frame_for (bytes_of t) [] q) (mode_for q))
+wanted mode t = let q = ask mode None false false in wants (pieces (bytes_of t) (frame_for (bytes_of t) [] q) (mode_for q))
 
 -- how many arguments texts want, and how many they are to want, one under the other
 abbrev pub texts : List ℕ
@@ -330,7 +330,7 @@ their = 0 ∷ 0 ∷ 1 ∷ 4 ∷ 8 ∷ 2 ∷ 65536 ∷ 2 ∷ 6 ∷ 1 ∷ 1 ∷ 1 
 
 -- how many characters are passed, no style and no snippet
 abbrev pub passed : ℕ → List ℕ → ℕ
-passed mode t = moves_of t [] (ask mode Hashes.Plain false false)
+passed mode t = moves_of t [] (ask mode None false false)
 
 -- the moves of texts, and how many they are to be, one under the other
 abbrev pub readings : List ℕ

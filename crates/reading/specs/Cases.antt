@@ -1,5 +1,5 @@
 -- A computed case: what a call takes, and all that it gives, every field of every record. Rests on the definitions of this crate.
-use Rattle.std.specs.Prelude.{ℕ, Bool, true, false, List, [], ◌∷◌, length}
+use Rattle.std.specs.Prelude.{ℕ, Bool, true, false, List, [], ◌∷◌, length, Option, Some, None}
 use Prim.Native.Char.{code}
 use Prim.Native.String.{String, [] as ended, ◌∷◌ as ◌then◌}
 use Rattle.frame.specs.Places.{place, snippet, range_of, span_of}
@@ -9,7 +9,6 @@ use Rattle.scan.specs.declared.Count.{Count}
 use Rattle.placeholder.specs.declared.Align.{Align}
 use Rattle.placeholder.specs.declared.Fill.{Fill}
 use Rattle.placeholder.specs.declared.Hex.{Hex}
-use Rattle.placeholder.specs.declared.MaybeSpan.{MaybeSpan}
 use Rattle.placeholder.specs.declared.Place.{Place}
 use Rattle.placeholder.specs.declared.Sign.{Sign}
 use Rattle.placeholder.specs.declared.Spec.{Spec}
@@ -20,8 +19,6 @@ use Rattle.reading.specs.Answers.{answered, frame_for, mode_for, answer_of}
 use Rattle.reading.specs.declared.Answer.{Answer}
 use Rattle.reading.specs.declared.Counts.{Counts}
 use Rattle.reading.specs.declared.ErrorRecord.{ErrorRecord}
-use Rattle.reading.specs.declared.Hashes.{Hashes}
-use Rattle.reading.specs.declared.MaybeRange.{MaybeRange}
 use Rattle.reading.specs.declared.Piece.{Piece}
 use Rattle.reading.specs.declared.Request.{Request}
 use Rattle.reading.specs.declared.Rooms.{Rooms}
@@ -71,17 +68,17 @@ span a b = span_of (snippet a) (snippet b)
 abbrev pub range : ℕ → ℕ → TextRange
 range a b = range_of (place a) (place b)
 
-abbrev pub some : ℕ → ℕ → MaybeSpan
-some a b = MaybeSpan.Present (span a b)
+abbrev pub some : ℕ → ℕ → Option Span
+some a b = Some (span a b)
 
-abbrev pub none : MaybeSpan
-none = MaybeSpan.Absent
+abbrev pub none : Option Span
+none = None
 
-abbrev pub quoted : ℕ → ℕ → MaybeRange
-quoted a b = MaybeRange.Present (range a b)
+abbrev pub quoted : ℕ → ℕ → Option TextRange
+quoted a b = Some (range a b)
 
-abbrev pub unquoted : MaybeRange
-unquoted = MaybeRange.Absent
+abbrev pub unquoted : Option TextRange
+unquoted = None
 
 -- PIECES
 abbrev pub lit : ℕ → ℕ → Piece
@@ -95,7 +92,7 @@ abbrev pub named : ℕ → ℕ → Place
 named a b = Place.Named (range a b)
 
 -- a spec that has a fill, an align, a `0`, a width and a precision with their spans, and a type with its span
-abbrev pub spec : Fill → Align → Bool → Count → MaybeSpan → Count → MaybeSpan → TextRange → MaybeSpan → Spec
+abbrev pub spec : Option Fill → Align → Bool → Count → Option Span → Count → Option Span → TextRange → Option Span → Spec
 spec fill align zero width widthspan precision precisionspan typetext typespan =
     record {
       fill = fill;
@@ -113,15 +110,15 @@ spec fill align zero width widthspan precision precisionspan typetext typespan =
     }
 
 -- a spec that has a type alone
-abbrev pub typed : ℕ → ℕ → MaybeSpan → Spec
-typed a b s = spec Fill.Absent Align.Unknown false Count.Implied none Count.Implied none (range a b) s
+abbrev pub typed : ℕ → ℕ → Option Span → Spec
+typed a b s = spec None Align.Unknown false Count.Implied none Count.Implied none (range a b) s
 
 -- a spec that has nothing: its empty type stands where reading stood
 abbrev pub empty : ℕ → Spec
 empty a = typed a a none
 
 -- CALLS
-abbrev pub ask : ℕ → Hashes → Bool → Bool → Request
+abbrev pub ask : ℕ → Option ℕ → Bool → Bool → Request
 ask mode style given newline = record { mode = mode; style = style; given = given; newline = newline }
 
 abbrev pub counts : ℕ → ℕ → ℕ → ℕ → Counts
@@ -144,8 +141,8 @@ bare mode t ps es =
     record {
       text = bytes_of t;
       snippet = [];
-      request = ask mode Hashes.Plain false false;
-      answer = done (moves_of (bytes_of t) [] (ask mode Hashes.Plain false false)) ps es [] [];
+      request = ask mode None false false;
+      answer = done (moves_of (bytes_of t) [] (ask mode None false false)) ps es [] [];
       pieces = ps;
       errors = es;
       places = [];
@@ -158,8 +155,8 @@ source mode t s ps es ls ns =
     record {
       text = bytes_of t;
       snippet = bytes_of s;
-      request = ask mode (Hashes.Raw 0) true false;
-      answer = done (moves_of (bytes_of t) (bytes_of s) (ask mode (Hashes.Raw 0) true false)) ps es ls ns;
+      request = ask mode (Some 0) true false;
+      answer = done (moves_of (bytes_of t) (bytes_of s) (ask mode (Some 0) true false)) ps es ls ns;
       pieces = ps;
       errors = es;
       places = ls;

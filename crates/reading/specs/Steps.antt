@@ -1,5 +1,5 @@
 -- One step of the reading, and the steps of a whole text.
-use Rattle.std.specs.Prelude.{ℕ, zero, suc, ◌+◌, List, [], ◌∷◌, ltb, length}
+use Rattle.std.specs.Prelude.{ℕ, zero, suc, ◌+◌, List, [], ◌∷◌, ltb, length, Option, Some, None}
 use Prim.Native.Char.{code}
 use Rattle.utf8.specs.Choice.{pick}
 use Rattle.frame.specs.Places.{place, range_of}
@@ -11,7 +11,6 @@ use Rattle.frame.specs.declared.Mode.{Mode}
 use Rattle.reading.specs.Wants.{larger, argument_wants}
 use Rattle.reading.specs.declared.State.{State}
 use Rattle.reading.specs.declared.Step.{Step}
-use Rattle.reading.specs.declared.Onward.{Onward}
 
 abbrev pub state_of : TextPlace → ℕ → ℕ → State
 state_of at n w = record { at = at; next = n; arguments = w }
@@ -40,16 +39,16 @@ step_at t f m s =
     Step.End
 
 -- where reading goes on after a step from a state; an argument may want more than those before it (R5.1, R8.6, R5.19)
-abbrev pub onward : State → Step → Onward
-onward s Step.End = Onward.Over
-onward s (Step.Stop p) = Onward.Over
-onward s (Step.Literal r) = Onward.To (state_of r.end s.next s.arguments)
-onward s (Step.Placeholder p) = Onward.To (state_of p.at p.next (larger s.arguments (argument_wants p.argument)))
+abbrev pub onward : State → Step → Option State
+onward s Step.End = None
+onward s (Step.Stop p) = None
+onward s (Step.Literal r) = Some (state_of r.end s.next s.arguments)
+onward s (Step.Placeholder p) = Some (state_of p.at p.next (larger s.arguments (argument_wants p.argument)))
 
 -- what follows a step
-abbrev pub follow : (State → List Step) → Onward → List Step
-follow more Onward.Over = []
-follow more (Onward.To s) = more s
+abbrev pub follow : (State → List Step) → Option State → List Step
+follow more None = []
+follow more (Some s) = more s
 
 -- the steps from a state, at most k of them
 unfoldable pub steps_from : ℕ → List ℕ → Frame → Mode → State → List Step

@@ -3,7 +3,7 @@
 
 use closing::whole::PlaceholderRead;
 use frame::{Span, TextPlace, TextRange};
-use placeholder::{Argument, MaybeSpan};
+use placeholder::Argument;
 
 // Where reading stands, the next argument's number, and how many arguments the pieces so far want.
 #[derive(Clone, Copy)]
@@ -22,17 +22,10 @@ pub enum Step {
     Placeholder(PlaceholderRead),
 }
 
-// Whether reading goes on after a step.
-#[derive(Clone, Copy)]
-pub enum Onward {
-    Over,
-    To(State),
-}
-
 // What a reading found wrong: the rules' fifteen kinds, with the places that their records are made from.
 #[derive(Clone, Copy)]
 pub enum Fault {
-    // Nothing is wrong.
+    // Nothing is wrong: a case like the others, so that a step's slots are one list of faults (`step_slots`).
     Clean,
     // 1: a lone `}`.
     Unmatched(TextPlace),
@@ -73,19 +66,13 @@ pub enum Piece {
 }
 
 #[derive(Clone, Copy)]
-pub enum MaybeRange {
-    Absent,
-    Present(TextRange),
-}
-
-#[derive(Clone, Copy)]
 pub struct ErrorRecord {
-    // The rules' number of the kind.
+    // The rules' number of the kind, by which lists are compared and other languages know it.
     pub kind: u8,
     pub span: Span,
-    pub second: MaybeSpan,
-    pub quoted: MaybeRange,
-    pub suggestion: MaybeSpan,
+    pub second: Option<Span>,
+    pub quoted: Option<TextRange>,
+    pub suggestion: Option<Span>,
     // How many pieces were listed when it was recorded.
     pub piece: usize,
 }
@@ -99,18 +86,14 @@ pub struct Counts {
     pub lines: usize,
 }
 
-// No style, or a raw string with so many hashes.
-#[derive(Clone, Copy)]
-pub enum Hashes {
-    Plain,
-    Raw(usize),
-}
-
 // How a text is to be read. A snippet that is not given is not looked at.
 #[derive(Clone, Copy)]
 pub struct Request {
+    // The rules' number, as it came: one that is no mode is refused.
     pub mode: u8,
-    pub style: Hashes,
+    // A raw string with so many hashes, or no style.
+    pub style: Option<usize>,
+    // Whether a snippet is given: a mark of its own, as the definitions of a call have it (`is_styled`, `is_long`, `frame_of`).
     pub given: bool,
     pub newline: bool,
 }

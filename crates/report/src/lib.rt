@@ -4,37 +4,13 @@
 
 ghost use Rattle.std.specs.Prelude.{◌≤◌};
 
-use frame::{SnippetPlace, Span, TextPlace, TextRange};
-use placeholder::MaybeSpan;
-use reading::{ErrorRecord, MaybeRange, Piece, Request, Rooms};
+use crate::lists::ROOM;
+use reading::{Request, Rooms};
 use std::io;
 use std::io::Write;
 
 pub mod lists; // lists.rt: the lists that are lent
 pub mod lines; // lines.rt: the lines of each list
-
-// The piece of nothing but zeros.
-fn no_piece() -> Piece {
-    Piece::Literal(TextRange {
-        start: TextPlace(0),
-        end: TextPlace(0),
-    })
-}
-
-// The error record of nothing but zeros.
-fn no_error() -> ErrorRecord {
-    ErrorRecord {
-        kind: 0,
-        span: Span {
-            start: SnippetPlace(0),
-            end: SnippetPlace(0),
-        },
-        second: MaybeSpan::Absent,
-        quoted: MaybeRange::Absent,
-        suggestion: MaybeSpan::Absent,
-        piece: 0,
-    }
-}
 
 // A text that is not refused, in full: its answer, and a line for each record of its lists.
 pub fn full<W: Write>(
@@ -43,7 +19,7 @@ pub fn full<W: Write>(
     snippet: &[u8],
     request: Request,
 ) -> io::Result<()> {
-    lists::listed(out, true, text, snippet, request, no_piece(), no_error())
+    lists::listed(out, true, text, snippet, request)
 }
 
 // A text that is not refused, in short: each list after its count.
@@ -53,14 +29,14 @@ pub fn short<W: Write>(
     snippet: &[u8],
     request: Request,
 ) -> io::Result<()> {
-    lists::listed(out, false, text, snippet, request, no_piece(), no_error())
+    lists::listed(out, false, text, snippet, request)
 }
 
 // As many as asked, and at most as many as a list holds.
 fn room(asked: usize) -> usize
     ensures { result ≤ 1024 }
 {
-    if asked < 1024 { asked } else { 1024 }
+    asked.min(ROOM)
 }
 
 // A case of a stream: `case K`, the answer with the case's rooms, and the records where it is done.
@@ -80,10 +56,9 @@ pub fn one_case<W: Write>(
         lines: room(rooms.lines),
     };
     let decision = answer::decide::decide(text, snippet, request, held);
-    let answer = decision.answer;
     listing::heading(out, b"case ", k)?;
-    if answer.number == 0 {
-        return full(out, text, snippet, request);
+    match decision.done {
+        Some(_) => full(out, text, snippet, request),
+        None => lines::answer_line(out, decision.answer),
     }
-    lines::answer_line(out, answer)
 }

@@ -2,6 +2,7 @@
 ghost use Rattle.std.specs.Prelude.{◌++◌, codes};
 ghost use Rattle.listing.specs.Shapes.{Wrote, shaped};
 
+use crate::lists::Lists;
 use reading::{Answer, Counts, ErrorRecord, Piece};
 use std::io;
 use std::io::Write;
@@ -10,13 +11,12 @@ use std::io::Write;
 pub fn answer_line<W: Write>(out: &mut W, answer: Answer) -> io::Result<()>
     ensures { Wrote result (W.contents out.old) (W.contents out.new) (shaped (codes "answer # #") answer.number answer.place ++ (shaped (codes " # #") answer.counts.pieces answer.counts.errors ++ (shaped (codes " # #") answer.counts.places answer.counts.lines ++ shaped (codes " arguments # moves #\n") answer.arguments answer.moves))) }
 {
-    listing::form(out, b"answer # #", answer.number as usize, answer.place)?;
+    write!(out, "answer {} {}", answer.number, answer.place)?;
     four_counts(out, answer.counts)?;
-    listing::form(
+    writeln!(
         out,
-        b" arguments # moves #\n",
-        answer.arguments,
-        answer.moves,
+        " arguments {} moves {}",
+        answer.arguments, answer.moves
     )
 }
 
@@ -24,15 +24,16 @@ pub fn answer_line<W: Write>(out: &mut W, answer: Answer) -> io::Result<()>
 fn four_counts<W: Write>(out: &mut W, counts: Counts) -> io::Result<()>
     ensures { Wrote result (W.contents out.old) (W.contents out.new) (shaped (codes " # #") counts.pieces counts.errors ++ shaped (codes " # #") counts.places counts.lines) }
 {
-    listing::form(out, b" # #", counts.pieces, counts.errors)?;
-    listing::form(out, b" # #", counts.places, counts.lines)
+    let (pieces, errors) = (counts.pieces, counts.errors);
+    let (places, lines) = (counts.places, counts.lines);
+    write!(out, " {pieces} {errors} {places} {lines}")
 }
 
 // A refusal in short: `answer`, its number and its place.
 pub fn refusal<W: Write>(out: &mut W, answer: Answer) -> io::Result<()>
     ensures { Wrote result (W.contents out.old) (W.contents out.new) (shaped (codes "answer # #\n") answer.number answer.place) }
 {
-    listing::form(out, b"answer # #\n", answer.number as usize, answer.place)
+    writeln!(out, "answer {} {}", answer.number, answer.place)
 }
 
 // The first line: in short the number alone.
@@ -40,16 +41,15 @@ fn head<W: Write>(out: &mut W, full: bool, answer: Answer) -> io::Result<()> {
     if full {
         return answer_line(out, answer);
     }
-    listing::heading(out, b"answer ", answer.number as usize)
+    writeln!(out, "answer {}", answer.number)
 }
 
 // In short, a list's heading, by the word for its records.
-fn section<W: Write>(out: &mut W, full: bool, word: &[u8], count: usize) -> io::Result<()> {
+fn section<W: Write>(out: &mut W, full: bool, word: &str, count: usize) -> io::Result<()> {
     if full {
         return Ok(());
     }
-    listing::words(out, word)?;
-    listing::heading(out, b"s ", count)
+    writeln!(out, "{word}s {count}")
 }
 
 // An error record's line.
@@ -64,26 +64,21 @@ fn error_line<W: Write>(out: &mut W, full: bool, error: ErrorRecord) -> io::Resu
 fn span_line<W: Write>(
     out: &mut W,
     full: bool,
-    word: &[u8],
+    word: &str,
     start: usize,
     end: usize,
 ) -> io::Result<()> {
     if full {
-        return listing::pair_line(out, word, start, end);
+        return listing::pair_line(out, word.as_bytes(), start, end);
     }
     listing::short_pair(out, start, end)
 }
 
 // The pieces: the first records of their list.
-fn piece_lines<W: Write>(
-    out: &mut W,
-    full: bool,
-    list: &[Piece; 1024],
-    count: usize,
-) -> io::Result<()> {
-    section(out, full, b"piece", count)?;
-    for i in 0..crate::room(count) {
-        listing::piece(out, full, list[i])?;
+fn piece_lines<W: Write>(out: &mut W, full: bool, list: &[Piece], count: usize) -> io::Result<()> {
+    section(out, full, "piece", count)?;
+    for piece in list.iter().take(count) {
+        listing::piece(out, full, *piece)?;
     }
     Ok(())
 }
@@ -92,12 +87,12 @@ fn piece_lines<W: Write>(
 fn error_lines<W: Write>(
     out: &mut W,
     full: bool,
-    list: &[ErrorRecord; 1024],
+    list: &[ErrorRecord],
     count: usize,
 ) -> io::Result<()> {
-    section(out, full, b"error", count)?;
-    for i in 0..crate::room(count) {
-        error_line(out, full, list[i])?;
+    section(out, full, "error", count)?;
+    for error in list.iter().take(count) {
+        error_line(out, full, *error)?;
     }
     Ok(())
 }
@@ -106,13 +101,13 @@ fn error_lines<W: Write>(
 fn span_lines<W: Write>(
     out: &mut W,
     full: bool,
-    word: &[u8],
-    list: &[usize; 2048],
+    word: &str,
+    list: &[usize],
     count: usize,
 ) -> io::Result<()> {
     section(out, full, word, count)?;
-    for i in 0..crate::room(count) {
-        span_line(out, full, word, list[2 * i], list[2 * i + 1])?;
+    for span in list.chunks_exact(2).take(count) {
+        span_line(out, full, word, span[0], span[1])?;
     }
     Ok(())
 }
@@ -122,14 +117,11 @@ pub fn sections<W: Write>(
     out: &mut W,
     full: bool,
     answer: Answer,
-    pieces: &[Piece; 1024],
-    errors: &[ErrorRecord; 1024],
-    places: &[usize; 2048],
-    lines: &[usize; 2048],
+    lists: &Lists,
 ) -> io::Result<()> {
     head(out, full, answer)?;
-    piece_lines(out, full, pieces, answer.counts.pieces)?;
-    error_lines(out, full, errors, answer.counts.errors)?;
-    span_lines(out, full, b"place", places, answer.counts.places)?;
-    span_lines(out, full, b"line", lines, answer.counts.lines)
+    piece_lines(out, full, &lists.pieces, answer.counts.pieces)?;
+    error_lines(out, full, &lists.errors, answer.counts.errors)?;
+    span_lines(out, full, "place", &lists.places, answer.counts.places)?;
+    span_lines(out, full, "line", &lists.lines, answer.counts.lines)
 }

@@ -1,17 +1,29 @@
 -- Laws of numbers that wrap with the overflow noted, and of the digits at a place. Rests on Words, Wrapping and on `utf8`'s laws of runs.
-use Rattle.std.proofs.Common.{◌≡◌, ℕ, ◌+◌, ◌-◌, ◌*◌, ◌/◌, ◌%◌, ◌<◌, ◌≤◌, Bool, true, false, ltb, List, sym, refl, ap, ◌∙◌, suc-le-suc, lt_of_lt_of_le, mod-eq_of_lt, arith, ltb-false, ltb-true, le-ltb, lt-ltb}
+use Rattle.std.proofs.Common.{◌≡◌, ℕ, ◌+◌, ◌-◌, ◌*◌, ◌/◌, ◌%◌, ◌<◌, ◌≤◌, Bool, true, false, ◌||◌, ltb, List, sym, refl, ap, ◌∙◌, suc-le-suc, lt_of_lt_of_le, mod-eq_of_lt, arith, ltb-false, ltb-true, le-ltb, lt-ltb, None}
 use native.Mathlib.Nat.{mod-add-mod, add-mod-mod, add-mul-mod_self_left}
 use Rattle.utf8.specs.Choice.{pick, either}
 use Rattle.utf8.specs.Utf8.{peek_at}
 use Rattle.utf8.specs.Chars.{take_while, run_end}
 use Rattle.utf8.specs.CharLaws.{Peeked, ended, run_more, run_stop, run_end_lem}
-use Rattle.utf8.specs.declared.Seen.TheVariants.{End}
 use Rattle.frame.specs.Places.{place}
 use Rattle.frame.specs.declared.TextPlace.{TextPlace}
 use Rattle.scan.specs.Words.{is_digit, decimal, numeral, digits_at, number_from, number_read}
 use Rattle.scan.specs.Wrapping.{noted, told, told_noted}
 use Rattle.scan.specs.declared.Noted.{Noted}
 use Rattle.scan.specs.declared.NumberRead.{NumberRead}
+
+-- one of some tests holds, as the code asks and as `either` does
+pub one_of_three : (a b c : Bool) → (a || b) || c ≡ either a (either b c)
+one_of_three true b c = refl
+one_of_three false b c = go b
+  where
+    go : (b : Bool) → b || c ≡ either b c
+    go true = refl
+    go false = refl
+
+pub one_of_four : (a b c d : Bool) → ((a || b) || c) || d ≡ either a (either b (either c d))
+one_of_four true b c d = refl
+one_of_four false b c d = one_of_three b c d
 
 -- two tests are equal where each way the first falls the second does
 same : (p q : Bool) → (p ≡ true → q ≡ true) → (p ≡ false → q ≡ false) → p ≡ q
@@ -120,6 +132,6 @@ module _ {t : List ℕ} {i : ℕ} (n : ℕ) (at : TextPlace) where
   rest_stop e p y = simp (e, told_noted n, run_stop is_digit p y, p.list, y)
 
 -- likewise where the text ends
-pub rest_end : (t : List ℕ) (i n : ℕ) (at : TextPlace) {k : Noted} → k ≡ noted n → peek_at t i ≡ End → number_from (told k) at (place i) ≡ rest t n at i
+pub rest_end : (t : List ℕ) (i n : ℕ) (at : TextPlace) {k : Noted} → k ≡ noted n → peek_at t i ≡ None → number_from (told k) at (place i) ≡ rest t n at i
 unfolding rest digits_at take_while decimal
 rest_end t i n at e d = simp (e, told_noted n, run_end_lem is_digit t i d, ended t i d)

@@ -1,30 +1,29 @@
 -- A character at a place of the text, and what is passed over it: one ASCII character, any character, whitespace, literal text.
 -- Rests on `utf8`'s decoding and runs, and `letters`' White_Space.
-use Rattle.std.specs.Prelude.{ℕ, ◌+◌, Bool, true, false, List, ◌==◌}
+use Rattle.std.specs.Prelude.{ℕ, ◌+◌, Bool, true, false, List, ◌==◌, Option, Some, None}
 use Prim.Native.Char.{code}
 use Rattle.utf8.specs.Choice.{pick}
 use Rattle.utf8.specs.Utf8.{peek_at}
 use Rattle.utf8.specs.Chars.{run_end}
 use Rattle.letters.specs.Questions.{is_space}
-use Rattle.utf8.specs.declared.Seen.{Seen}
-use Rattle.utf8.specs.declared.Seen.TheVariants.{Char, End}
 use Rattle.frame.specs.Places.{place}
 use Rattle.frame.specs.declared.TextPlace.{TextPlace}
 use Rattle.scan.specs.declared.Consumed.{Consumed}
+use Rattle.utf8.specs.declared.Char.{Char}
 
 -- what is seen is the character c
-abbrev pub sees : ℕ → Seen → Bool
-sees c End = false
-sees c (Char x w) = x == c
+abbrev pub sees : ℕ → Option Char → Bool
+sees c None = false
+sees c (Some seen) = seen.code == c
 
 -- the character at a place is c (R3.2)
 unfoldable pub is_at : List ℕ → TextPlace → ℕ → Bool
 is_at t at c = sees c (peek_at t at.0)
 
 -- how many bytes what is seen takes
-abbrev pub width : Seen → ℕ
-width End = 0
-width (Char c w) = w
+abbrev pub width : Option Char → ℕ
+width None = 0
+width (Some seen) = seen.width
 
 -- the place after the character at a place; at the end, the place itself (R3.2)
 unfoldable pub past_at : List ℕ → TextPlace → TextPlace

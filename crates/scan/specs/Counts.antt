@@ -1,5 +1,5 @@
 -- A count at a place: "A width is a number, number`$` or word`$`."
-use Rattle.std.specs.Prelude.{ℕ, Bool, List, length, ◌==◌}
+use Rattle.std.specs.Prelude.{ℕ, Bool, List, length, ◌==◌, Option, Some, None}
 use Prim.Native.Char.{code}
 use Rattle.utf8.specs.Choice.{pick}
 use Rattle.utf8.specs.Chars.{chars_of}
@@ -11,7 +11,6 @@ use Rattle.scan.specs.Characters.{consumed}
 use Rattle.scan.specs.Words.{word_read, number_read}
 use Rattle.scan.specs.declared.Flaw.{Flaw}
 use Rattle.scan.specs.declared.WordRead.{WordRead}
-use Rattle.scan.specs.declared.Number.{Number}
 use Rattle.scan.specs.declared.NumberRead.{NumberRead}
 use Rattle.scan.specs.declared.Numeral.{Numeral}
 use Rattle.scan.specs.declared.Count.{Count}
@@ -42,9 +41,9 @@ name_after t f at w =
 unfoldable pub name_count : List ℕ → Frame → TextPlace → CountRead
 name_count t f at = name_after t f at (word_read t at)
 
-abbrev pub count_after : List ℕ → Frame → TextPlace → NumberRead → Number → CountRead
-count_after t f at r (Number.Given n) = number_count t n r.digits.end r.flaw
-count_after t f at r Number.Nothing = name_count t f at
+abbrev pub count_after : List ℕ → Frame → TextPlace → NumberRead → Option Numeral → CountRead
+count_after t f at r (Some n) = number_count t n r.digits.end r.flaw
+count_after t f at r None = name_count t f at
 
 -- the count at a place (R5.10)
 unfoldable pub count_read : List ℕ → Frame → TextPlace → CountRead

@@ -1,5 +1,5 @@
 -- Worked examples of the leaves, each computed. Rests on Characters, Words and Counts.
-use Rattle.std.specs.Prelude.{◌≡◌, ℕ, true, false, [], ◌∷◌, refl}
+use Rattle.std.specs.Prelude.{◌≡◌, ℕ, true, false, [], ◌∷◌, refl, Option, Some, None}
 use Rattle.utf8.specs.Choice.{pick, within}
 use Rattle.utf8.specs.Utf8.{low, high, sequence_of, sequence_at, char_of, decode, peek_at}
 use Rattle.utf8.specs.Chars.{chars_at, chars_from, take_while, bytes, run_end, before}
@@ -17,7 +17,6 @@ use Rattle.scan.specs.Words.{word_end, is_underscore, word_read, is_digit, decim
 use Rattle.scan.specs.Counts.{is_empty, counted, number_count, name_count, count_read}
 use Rattle.scan.specs.declared.Flaw.{Flaw}
 use Rattle.scan.specs.declared.WordRead.{WordRead}
-use Rattle.scan.specs.declared.Number.{Number}
 use Rattle.scan.specs.declared.NumberRead.{NumberRead}
 use Rattle.scan.specs.declared.Numeral.{Numeral}
 use Rattle.scan.specs.declared.Count.{Count}
@@ -31,7 +30,7 @@ abbrev worded : TextRange → Flaw → WordRead
 worded r x = record { word = r; flaw = x }
 
 -- a number of these digits
-abbrev numbered : Number → TextRange → Flaw → NumberRead
+abbrev numbered : Option Numeral → TextRange → Flaw → NumberRead
 numbered n r x = record { number = n; digits = r; flaw = x }
 
 -- no style, no snippet, a text of two bytes
@@ -63,10 +62,10 @@ words = (refl, refl, refl, refl)
 
 -- numbers: `65535` is clean, `65536` is over range and its digits are a flaw, leading zeros do not count, and `a` is none
 pub numbers :
-    (number_read (0x36 ∷ 0x35 ∷ 0x35 ∷ 0x33 ∷ 0x35 ∷ []) (place 0) ≡ numbered (Number.Given (Numeral.Within 65535)) (range 0 5) Flaw.Clean) ×
-    (number_read (0x36 ∷ 0x35 ∷ 0x35 ∷ 0x33 ∷ 0x36 ∷ []) (place 0) ≡ numbered (Number.Given Numeral.Over) (range 0 5) (Flaw.TooLarge (range 0 5))) ×
-    (number_read (0x30 ∷ 0x30 ∷ 0x30 ∷ 0x30 ∷ 0x30 ∷ 0x37 ∷ []) (place 0) ≡ numbered (Number.Given (Numeral.Within 7)) (range 0 6) Flaw.Clean) ×
-    (number_read (0x61 ∷ []) (place 0) ≡ numbered Number.Nothing (range 0 0) Flaw.Clean)
+    (number_read (0x36 ∷ 0x35 ∷ 0x35 ∷ 0x33 ∷ 0x35 ∷ []) (place 0) ≡ numbered (Some (Numeral.Within 65535)) (range 0 5) Flaw.Clean) ×
+    (number_read (0x36 ∷ 0x35 ∷ 0x35 ∷ 0x33 ∷ 0x36 ∷ []) (place 0) ≡ numbered (Some Numeral.Over) (range 0 5) (Flaw.TooLarge (range 0 5))) ×
+    (number_read (0x30 ∷ 0x30 ∷ 0x30 ∷ 0x30 ∷ 0x30 ∷ 0x37 ∷ []) (place 0) ≡ numbered (Some (Numeral.Within 7)) (range 0 6) Flaw.Clean) ×
+    (number_read (0x61 ∷ []) (place 0) ≡ numbered None (range 0 0) Flaw.Clean)
 unfolding
     number_read number_from digits_at is_digit decimal numeral peek_at decode char_of sequence_at sequence_of low high within pick run_end chars_from chars_at
     take_while bytes

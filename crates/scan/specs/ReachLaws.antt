@@ -1,26 +1,25 @@
 -- Reading passes whole characters: from one place to another it passes some, and the characters from the first place on are these and those
 -- from the second on. So the characters between the two places are the ones that were passed. Rests on ScanLaws and utf8's laws of characters.
-use Rattle.std.specs.Prelude.{◌≡◌, ℕ, ◌+◌, ◌<◌, ◌≤◌, Bool, true, false, List, [], ◌∷◌, ◌++◌, length, nat_le}
+use Rattle.std.specs.Prelude.{◌≡◌, ℕ, ◌+◌, ◌<◌, ◌≤◌, Bool, true, false, List, [], ◌∷◌, ◌++◌, length, nat_le, Option, Some, None}
 use Rattle.std.proofs.Math.Path.{refl, sym, ap}
 use Rattle.std.proofs.Common.{◌∙◌, append_assoc, add_assoc, lt-ltb, leb-true, leb-false, length-append}
 use Rattle.std.proofs.Math.Nat.{add-zero}
 use native.Mathlib.Omega.{arith}
 use Rattle.utf8.specs.Choice.{pick}
 use Rattle.utf8.specs.ChoiceLaws.{pick_elim}
-use Rattle.utf8.specs.Utf8.{peek_at}
+use Rattle.utf8.specs.Utf8.{peek_at, char}
 use Rattle.utf8.specs.Chars.{Ch, ch, chars_from, before, chars_of, take_while, drop_while, bytes, run_end}
 use Rattle.utf8.specs.CharLaws.{peeked, ended, past_end, first, before_past, run_split}
 use Rattle.letters.specs.Questions.{is_start, is_continue, is_space}
-use Rattle.utf8.specs.declared.Seen.{Seen}
-use Rattle.utf8.specs.declared.Seen.TheVariants.{Char}
 use Rattle.frame.specs.declared.TextPlace.{TextPlace}
 use Rattle.frame.specs.declared.Frame.{Frame}
 use Rattle.scan.specs.Characters.{is_at, width, past_at, consumed, spaces_past, is_plain, text_end}
 use Rattle.scan.specs.Words.{word_seen, word_end, word_read, is_digit, number_read}
 use Rattle.scan.specs.Counts.{number_count, name_count, count_after, count_read}
 use Rattle.scan.specs.ScanLaws.{seen_elim, is_at_seen, number_range}
-use Rattle.scan.specs.declared.Number.{Number}
 use Rattle.scan.specs.declared.CountRead.{CountRead}
+use Rattle.scan.specs.declared.Numeral.{Numeral}
+use Rattle.utf8.specs.declared.Char.{Char}
 
 pub record Reached (t : List ℕ) (i j : ℕ) : Type 0 where
   pub chars : List Ch
@@ -48,7 +47,7 @@ module _ {t : List ℕ} where
       }
 
   -- the character that is seen
-  pub reached_char : (i : ℕ) {c w : ℕ} → peek_at t i ≡ Char c w → Reached t i (i + w)
+  pub reached_char : (i : ℕ) {c w : ℕ} → peek_at t i ≡ Some (char c w) → Reached t i (i + w)
   unfolding bytes
   reached_char i {c} {w} e = record { chars = ch c i w ∷ []; list = (peeked t i e).list; ends = omega arith }
 
@@ -78,7 +77,7 @@ module _ (t : List ℕ) where
     pub reached_past : Reached t at.0 (past_at t at).0
     unfolding past_at
     reached_past =
-        seen_elim (λ (n : Seen). Reached t at.0 (at.0 + width n)) t at.0 (λ _. rw (add-zero at.0) (reached_none at.0))
+        seen_elim (λ (n : Option Char). Reached t at.0 (at.0 + width n)) t at.0 (λ _. rw (add-zero at.0) (reached_none at.0))
         (λ c w e. reached_char at.0 e)
 
     -- whitespace, and literal text
@@ -94,7 +93,7 @@ module _ (t : List ℕ) where
     pub reached_word : Reached t at.0 (word_end t at).0
     unfolding word_end
     reached_word =
-        seen_elim (λ (n : Seen). Reached t at.0 (word_seen t at n).0) t at.0 (λ _. reached_none at.0)
+        seen_elim (λ (n : Option Char). Reached t at.0 (word_seen t at n).0) t at.0 (λ _. reached_none at.0)
         (λ c w e.
         pick_elim (λ (p : TextPlace). Reached t at.0 p.0) (is_start c)
         (λ _. reached_then (reached_char at.0 e) (reached_run is_continue (at.0 + w))) (λ _. reached_none at.0))
@@ -112,10 +111,10 @@ module _ (t : List ℕ) where
         P : CountRead → Type 0
         P r = Reached t at.0 r.at.0
 
-        go : (n : Number) → P (count_after t f at (number_read t at) n)
-        go (Number.Given n) =
+        go : (n : Option Numeral) → P (count_after t f at (number_read t at) n)
+        go (Some n) =
             pick_elim P _ (λ _. reached_then (reached_number at) (reached_consumed _ 0x24 (omega arith))) (λ _. reached_number at)
-        go Number.Nothing =
+        go None =
             pick_elim P _ (λ _. reached_none at.0)
             (λ _. pick_elim P _ (λ _. reached_then (reached_word at) (reached_consumed _ 0x24 (omega arith))) (λ _. reached_none at.0))
 
@@ -174,7 +173,7 @@ count_given t f at = go (number_read t at).number
     P : CountRead → Type 0
     P r = r.given ≤ length t
 
-    go : (n : Number) → P (count_after t f at (number_read t at) n)
-    go (Number.Given n) = pick_elim P _ (λ _. omega arith) (λ _. omega arith)
-    go Number.Nothing =
+    go : (n : Option Numeral) → P (count_after t f at (number_read t at) n)
+    go (Some n) = pick_elim P _ (λ _. omega arith) (λ _. omega arith)
+    go None =
         pick_elim P _ (λ _. omega arith) (λ _. pick_elim P _ (λ _. omega arith) (λ _. few_chars t at.0 (word_end t at).0))

@@ -1,6 +1,6 @@
 -- Laws of the leaves for their callers: where each stops, and that it stays within the text.
 -- Rests on Characters, Words and Counts, and on the laws of characters and runs of `utf8`.
-use Rattle.std.specs.Prelude.{◌≡◌, ℕ, ◌+◌, ◌<◌, ◌≤◌, Bool, true, false, List, [], ◌∷◌, length, ◌==◌, slice_index}
+use Rattle.std.specs.Prelude.{◌≡◌, ℕ, ◌+◌, ◌<◌, ◌≤◌, Bool, true, false, List, [], ◌∷◌, length, ◌==◌, slice_index, Option, Some, None}
 use Rattle.std.proofs.Math.Path.{refl}
 use Rattle.std.proofs.Common.{sym, ◌∙◌, true≢false}
 use Rattle.std.proofs.Math.Nat.{le_trans}
@@ -8,12 +8,10 @@ use native.Mathlib.Omega.{arith}
 use borrow.Author.Tests.{eqb-true, eq-eqb, ne_eqb}
 use Rattle.utf8.specs.Choice.{pick}
 use Rattle.utf8.specs.ChoiceLaws.{pick_elim}
-use Rattle.utf8.specs.Utf8.{peek_at}
+use Rattle.utf8.specs.Utf8.{peek_at, char}
 use Rattle.utf8.specs.Chars.{Ch, chars_from, take_while, bytes, run_end}
 use Rattle.utf8.specs.CharLaws.{peeked, seen_in, past_end, end_past, ascii_char, char_ascii, spelled, run_more}
 use Rattle.letters.specs.Questions.{is_start, is_continue, is_space}
-use Rattle.utf8.specs.declared.Seen.{Seen}
-use Rattle.utf8.specs.declared.Seen.TheVariants.{Char, End}
 use Rattle.frame.specs.Places.{place, range_of}
 use Rattle.frame.specs.declared.TextPlace.{TextPlace}
 use Rattle.frame.specs.declared.Frame.{Frame}
@@ -22,18 +20,18 @@ use Rattle.scan.specs.Words.{word_seen, word_end, word_read, is_digit, number_fr
 use Rattle.scan.specs.Counts.{number_count, name_count, count_after, count_read}
 use Rattle.scan.specs.declared.Flaw.{Flaw}
 use Rattle.scan.specs.declared.NumberRead.{NumberRead}
-use Rattle.scan.specs.declared.Number.{Number}
 use Rattle.scan.specs.declared.Numeral.{Numeral}
 use Rattle.scan.specs.declared.CountRead.{CountRead}
+use Rattle.utf8.specs.declared.Char.{Char}
 
 -- what holds of nothing at the end, and of each character that may be seen, holds of what is seen
-pub seen_elim : (P : Seen → Type 0) (t : List ℕ) (i : ℕ) → (peek_at t i ≡ End → P End) →
-    ((c w : ℕ) → peek_at t i ≡ Char c w → P (Char c w)) → P (peek_at t i)
+pub seen_elim : (P : Option Char → Type 0) (t : List ℕ) (i : ℕ) → (peek_at t i ≡ None → P None) →
+    ((c w : ℕ) → peek_at t i ≡ Some (char c w) → P (Some (char c w))) → P (peek_at t i)
 seen_elim P t i none some = go (peek_at t i) refl
   where
-    go : (n : Seen) → peek_at t i ≡ n → P n
-    go End e = none e
-    go (Char c w) e = some c w e
+    go : (n : Option Char) → peek_at t i ≡ n → P n
+    go None e = none e
+    go (Some seen) e = some seen.code seen.width e
 
 -- part of some characters takes no more bytes than all
 taken_bytes : (f : ℕ → Bool) (cs : List Ch) → bytes (take_while f cs) ≤ bytes cs
@@ -59,7 +57,7 @@ unfolding is_plain pick
 plain_high c h = simp (ne_eqb c 0x7B (omega arith), ne_eqb c 0x7D (omega arith))
 
 -- a run passes a character that passes the test
-pub run_some : (f : ℕ → Bool) (t : List ℕ) (i : ℕ) {c w : ℕ} → peek_at t i ≡ Char c w → f c ≡ true → i < run_end f t i
+pub run_some : (f : ℕ → Bool) (t : List ℕ) (i : ℕ) {c w : ℕ} → peek_at t i ≡ Some (char c w) → f c ≡ true → i < run_end f t i
 run_some f t i {c} {w} e y = let p = peeked t i e in omega (arith, run_more f p y, run_on f t (i + w))
 
 module _ (t : List ℕ) (at : TextPlace) where
@@ -68,13 +66,13 @@ module _ (t : List ℕ) (at : TextPlace) where
     pub is_at_in : is_at t at c ≡ true → at.0 < length t
     unfolding is_at
     is_at_in =
-        seen_elim (λ (n : Seen). sees c n ≡ true → at.0 < length t) t at.0 (λ e y. absurd (true≢false (sym y))) (λ x w e y. seen_in t at.0 e)
+        seen_elim (λ (n : Option Char). sees c n ≡ true → at.0 < length t) t at.0 (λ e y. absurd (true≢false (sym y))) (λ x w e y. seen_in t at.0 e)
 
     -- an ASCII character that is at a place is seen there, one byte wide
-    pub is_at_seen : c < 0x80 → is_at t at c ≡ true → peek_at t at.0 ≡ Char c 1
+    pub is_at_seen : c < 0x80 → is_at t at c ≡ true → peek_at t at.0 ≡ Some (char c 1)
     unfolding is_at
     is_at_seen l =
-        seen_elim (λ (n : Seen). sees c n ≡ true → n ≡ Char c 1) t at.0 (λ e y. absurd (true≢false (sym y)))
+        seen_elim (λ (n : Option Char). sees c n ≡ true → n ≡ Some (char c 1)) t at.0 (λ e y. absurd (true≢false (sym y)))
         (λ x w e y.
         let q = eqb-true x c y in
         let s = char_ascii t at.0 e (omega arith) in
@@ -82,7 +80,7 @@ module _ (t : List ℕ) (at : TextPlace) where
         cc)
 
     -- a character that is seen at a place is at it
-    pub seen_is_at : {w : ℕ} → peek_at t at.0 ≡ Char c w → is_at t at c ≡ true
+    pub seen_is_at : {w : ℕ} → peek_at t at.0 ≡ Some (char c w) → is_at t at c ≡ true
     unfolding is_at
     seen_is_at e = rw e (eq-eqb c c refl)
 
@@ -141,13 +139,13 @@ module _ (t : List ℕ) (at : TextPlace) where
   pub past_in : at.0 ≤ length t → (past_at t at).0 ≤ length t
   unfolding past_at
   past_in h =
-      seen_elim (λ (n : Seen). at.0 + width n ≤ length t) t at.0 (λ _. omega arith) (λ c w e. (peeked t at.0 e).room)
+      seen_elim (λ (n : Option Char). at.0 + width n ≤ length t) t at.0 (λ _. omega arith) (λ c w e. (peeked t at.0 e).room)
 
   -- within the text it passes something
   pub past_some : at.0 < length t → at.0 < (past_at t at).0
   unfolding past_at
   past_some h =
-      seen_elim (λ (n : Seen). at.0 < at.0 + width n) t at.0 (λ e. omega (arith, end_past t at.0 e))
+      seen_elim (λ (n : Option Char). at.0 < at.0 + width n) t at.0 (λ e. omega (arith, end_past t at.0 e))
       (λ c w e. omega (arith, (peeked t at.0 e).some))
 
   -- past whitespace goes forward
@@ -171,7 +169,7 @@ module _ (t : List ℕ) (at : TextPlace) where
   text_in h = run_in is_plain t at.0 h
 
   -- a character that is no brace is literal text
-  pub text_some : {c w : ℕ} → peek_at t at.0 ≡ Char c w → is_plain c ≡ true → at.0 < (text_end t at).0
+  pub text_some : {c w : ℕ} → peek_at t at.0 ≡ Some (char c w) → is_plain c ≡ true → at.0 < (text_end t at).0
   unfolding text_end
   text_some e y = run_some is_plain t at.0 e y
 
@@ -179,7 +177,7 @@ module _ (t : List ℕ) (at : TextPlace) where
   pub word_on : at.0 ≤ (word_end t at).0
   unfolding word_end
   word_on =
-      seen_elim (λ (n : Seen). at.0 ≤ (word_seen t at n).0) t at.0 (λ _. omega arith)
+      seen_elim (λ (n : Option Char). at.0 ≤ (word_seen t at n).0) t at.0 (λ _. omega arith)
       (λ c w e.
       pick_elim (λ (p : TextPlace). at.0 ≤ p.0) (is_start c) (λ _. omega (arith, run_on is_continue t (at.0 + w))) (λ _. omega arith))
 
@@ -187,7 +185,7 @@ module _ (t : List ℕ) (at : TextPlace) where
   pub word_in : at.0 ≤ length t → (word_end t at).0 ≤ length t
   unfolding word_end
   word_in h =
-      seen_elim (λ (n : Seen). (word_seen t at n).0 ≤ length t) t at.0 (λ _. h)
+      seen_elim (λ (n : Option Char). (word_seen t at n).0 ≤ length t) t at.0 (λ _. h)
       (λ c w e.
       pick_elim (λ (p : TextPlace). p.0 ≤ length t) (is_start c) (λ _. run_in is_continue t (at.0 + w) (peeked t at.0 e).room) (λ _. h))
 
@@ -240,15 +238,15 @@ module _ (t : List ℕ) (f : Frame) (at : TextPlace) where
   unfolding count_read
   count_on = go (number_read t at).number
     where
-      go : (n : Number) → at.0 ≤ (count_after t f at (number_read t at) n).at.0
-      go (Number.Given n) = le_trans (number_on t at) (number_count_on t n (number_read t at).digits.end (number_read t at).flaw)
-      go Number.Nothing = name_count_on
+      go : (n : Option Numeral) → at.0 ≤ (count_after t f at (number_read t at) n).at.0
+      go (Some n) = le_trans (number_on t at) (number_count_on t n (number_read t at).digits.end (number_read t at).flaw)
+      go None = name_count_on
 
   -- and ends within the text
   pub count_in : at.0 ≤ length t → (count_read t f at).at.0 ≤ length t
   unfolding count_read
   count_in h = go (number_read t at).number
     where
-      go : (n : Number) → (count_after t f at (number_read t at) n).at.0 ≤ length t
-      go (Number.Given n) = number_count_in t n (number_read t at).digits.end (number_read t at).flaw (number_in t at h)
-      go Number.Nothing = name_count_in h
+      go : (n : Option Numeral) → (count_after t f at (number_read t at) n).at.0 ≤ length t
+      go (Some n) = number_count_in t n (number_read t at).digits.end (number_read t at).flaw (number_in t at h)
+      go None = name_count_in h

@@ -1,26 +1,24 @@
 -- A word and a number at a place.
-use Rattle.std.specs.Prelude.{ℕ, ◌+◌, ◌-◌, ◌*◌, Bool, List, [], ◌∷◌, ◌==◌, nat_lt}
+use Rattle.std.specs.Prelude.{ℕ, ◌+◌, ◌-◌, ◌*◌, Bool, List, [], ◌∷◌, ◌==◌, nat_lt, Some, None, Option}
 use Prim.Native.Char.{code}
 use Rattle.utf8.specs.Choice.{pick, both, within}
 use Rattle.utf8.specs.Utf8.{peek_at}
 use Rattle.utf8.specs.Chars.{Ch, chars_from, take_while, run_end}
 use Rattle.letters.specs.Questions.{is_start, is_continue}
-use Rattle.utf8.specs.declared.Seen.{Seen}
-use Rattle.utf8.specs.declared.Seen.TheVariants.{Char, End}
 use Rattle.frame.specs.Places.{place, range_of}
 use Rattle.frame.specs.declared.TextPlace.{TextPlace}
 use Rattle.frame.specs.declared.TextRange.{TextRange}
 use Rattle.scan.specs.Characters.{is_at}
 use Rattle.scan.specs.declared.Flaw.{Flaw}
 use Rattle.scan.specs.declared.WordRead.{WordRead}
-use Rattle.scan.specs.declared.Number.{Number}
 use Rattle.scan.specs.declared.NumberRead.{NumberRead}
 use Rattle.scan.specs.declared.Numeral.{Numeral}
+use Rattle.utf8.specs.declared.Char.{Char}
 
 -- the end of the word whose first character is seen at a place
-abbrev pub word_seen : List ℕ → TextPlace → Seen → TextPlace
-word_seen t at End = at
-word_seen t at (Char c w) = pick (is_start c) (place (run_end is_continue t (at.0 + w))) at
+abbrev pub word_seen : List ℕ → TextPlace → Option Char → TextPlace
+word_seen t at None = at
+word_seen t at (Some seen) = pick (is_start seen.code) (place (run_end is_continue t (at.0 + seen.width))) at
 
 -- "A word is one start and then continuations, taken as far as they go." (R3.5)
 unfoldable pub word_end : List ℕ → TextPlace → TextPlace
@@ -69,8 +67,8 @@ digits_at t at = take_while is_digit (chars_from t at.0)
 unfoldable pub number_from : Numeral → TextPlace → TextPlace → NumberRead
 number_from n at end =
     pick (at.0 == end.0)
-    (record { number = Number.Nothing; digits = range_of at end; flaw = Flaw.Clean })
-    (record { number = Number.Given n; digits = range_of at end; flaw = too_large n (range_of at end) })
+    (record { number = None; digits = range_of at end; flaw = Flaw.Clean })
+    (record { number = Some n; digits = range_of at end; flaw = too_large n (range_of at end) })
 
 -- "A number is one or more ASCII digits." (R3.7)
 unfoldable pub number_read : List ℕ → TextPlace → NumberRead

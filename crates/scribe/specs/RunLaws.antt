@@ -1,15 +1,15 @@
--- The run over a text's pieces: what is left of the plain form is that of the turn's piece and those after it. Rests on turns and pen's laws.
-use Rattle.std.specs.Prelude.{ℕ, ◌+◌, ◌<◌, ◌≡◌, true, false, length}
+-- The run over a text's pieces: what is left of the plain form is that of the pieces from the cursor on. Rests on turns and pen's laws.
+use Rattle.std.specs.Prelude.{ℕ, ◌+◌, ◌<◌, ◌≡◌, ◌≤◌, length, Some, None}
 use Rattle.std.proofs.Math.Path.{refl}
 use Rattle.std.proofs.Common.{ap, sym, subst, ◌∙◌, arith, length-append}
 use mathlib.Core.List.{List, [], ◌∷◌, ◌++◌}
-use Rattle.utf8.specs.Choice.{pick}
 use Rattle.frame.specs.declared.Frame.{Frame}
 use Rattle.frame.specs.declared.Mode.{Mode}
 use Rattle.reading.specs.Lists.{gather, pieces}
 use Rattle.reading.specs.declared.Piece.{Piece}
-use Rattle.turns.specs.Turns.{Fresh, first_cursor, pieces_at, pieces_turn, PieceNext}
-use Rattle.turns.specs.TurnLaws.{first_pieces}
+use Rattle.turns.specs.Turns.{Fresh, first_cursor, pieces_at, PieceNext}
+use Rattle.turns.specs.TurnLaws.{first_pieces, fresh_first}
+use Rattle.turns.specs.declared.Cursor.{Cursor}
 use Rattle.turns.specs.declared.PieceTurn.{PieceTurn}
 use Rattle.pen.specs.Pens.{Fits, Laid}
 use Rattle.pen.specs.PenLaws.{Left, left_first, left_last}
@@ -32,28 +32,27 @@ module _ (t : List ℕ) (f : Frame) (m : Mode) where
   form_none = refl
 
   -- where the run stands
-  pub record Going (old out : List ℕ) (turn : PieceTurn) (k : ℕ) : Type 0 where
-    pub left : Left old 0 (form_of (pieces t f m)) out k (form_of (pieces_turn t f m turn))
-    pub inked : AllInked (pieces_turn t f m turn)
-    pub fresh : Fresh turn.cursor
+  pub record Going (old out : List ℕ) (c : Cursor) (k : ℕ) : Type 0 where
+    pub left : Left old 0 (form_of (pieces t f m)) out k (form_of (pieces_at t f m c))
+    pub inked : AllInked (pieces_at t f m c)
+    pub fresh : Fresh c
 
-  pub going_first : (old : List ℕ) {turn : PieceTurn} → PieceNext t f m (first_cursor t) turn → AllInked (pieces t f m) → Going old old turn 0
-  going_first old {turn} n a =
-      let e : pieces_turn t f m turn ≡ pieces t f m = n.says ∙ first_pieces t f m in
+  pub going_first : (old : List ℕ) → length t ≤ 65535 → AllInked (pieces t f m) → Going old old (first_cursor t) 0
+  going_first old h a =
+      let e : pieces_at t f m (first_cursor t) ≡ pieces t f m = first_pieces t f m in
       record {
         left = subst (λ xs. Left old 0 (form_of (pieces t f m)) old 0 (form_of xs)) (sym e) (left_first old 0 (form_of (pieces t f m)));
         inked = subst AllInked (sym e) a;
-        fresh = n.fresh;
+        fresh = fresh_first t h;
       }
 
-  module _ {old out : List ℕ} {turn : PieceTurn} {k : ℕ} (g : Going old out turn k) where
+  module _ {old out : List ℕ} {c : Cursor} {k : ℕ} (g : Going old out c k) where
     -- a piece is there
-    module _ (h : turn.more ≡ true) where
-      turn_some : pieces_turn t f m turn ≡ turn.piece ∷ pieces_at t f m turn.cursor
-      unfolding pick
-      turn_some = rw h
+    module _ {turn : PieceTurn} (next : PieceNext t f m c (Some turn)) where
+      turn_some : pieces_at t f m c ≡ turn.piece ∷ pieces_at t f m turn.cursor
+      turn_some = sym next.says
 
-      form_some : form_of (pieces_turn t f m turn) ≡ plain_piece (said_piece t turn.piece) ++ form_of (pieces_at t f m turn.cursor)
+      form_some : form_of (pieces_at t f m c) ≡ plain_piece (said_piece t turn.piece) ++ form_of (pieces_at t f m turn.cursor)
       form_some = ap form_of turn_some ∙ form_more turn.piece (pieces_at t f m turn.cursor)
 
       pub piece_asked : Fits 1 (form_of (pieces t f m)) → Fits (k + 1) (plain_piece (said_piece t turn.piece)) × InkedPiece turn.piece
@@ -62,28 +61,21 @@ module _ (t : List ℕ) (f : Frame) (m : Mode) where
         (subst AllInked turn_some g.inked).0,
       )
 
-      pub going_on : {out' : List ℕ} {k' : ℕ} {next : PieceTurn} → Laid out k (plain_piece (said_piece t turn.piece)) k' out' → PieceNext t f m turn.cursor next →
-          Going old out' next k'
-      going_on {out'} {k'} {next} p n =
-          let e = n.says in
+      pub going_on : {out' : List ℕ} {k' : ℕ} → Laid out k (plain_piece (said_piece t turn.piece)) k' out' → Going old out' turn.cursor k'
+      going_on p =
           record {
-            left =
-                subst (λ xs. Left old 0 (form_of (pieces t f m)) out' k' (form_of xs)) (sym e)
-                (left_on (plain_piece (said_piece t turn.piece)) (form_of (pieces_at t f m turn.cursor)) g.left form_some p);
-            inked = subst AllInked (sym e) (subst AllInked turn_some g.inked).1;
-            fresh = n.fresh;
+            left = left_on (plain_piece (said_piece t turn.piece)) (form_of (pieces_at t f m turn.cursor)) g.left form_some p;
+            inked = (subst AllInked turn_some g.inked).1;
+            fresh = next.fresh;
           }
 
       -- fewer are left
-      pub going_less : {next : PieceTurn} → PieceNext t f m turn.cursor next → length (pieces_turn t f m next) < length (pieces_turn t f m turn)
-      going_less n = omega (arith, ap length turn_some, ap length n.says)
+      pub going_less : length (pieces_at t f m turn.cursor) < length (pieces_at t f m c)
+      going_less = omega (arith, ap length turn_some)
 
     -- none is
-    pub going_last : turn.more ≡ false → Laid old 0 (form_of (pieces t f m)) k out
-    unfolding pick
-    going_last h =
-        let e : pieces_turn t f m turn ≡ [] = rw h in
-        left_last g.left (ap form_of e ∙ form_none)
+    pub going_last : PieceNext t f m c None → Laid old 0 (form_of (pieces t f m)) k out
+    going_last next = left_last g.left (ap form_of (sym next.says) ∙ form_none)
 
     pub going_length : length out ≡ length old
     going_length = left_length g.left

@@ -1,5 +1,5 @@
 -- What the scribe's functions lay, where it is a part of a plain form, and what they ask. Rests on plain's Plain.
-use Rattle.std.specs.Prelude.{Bool, false, List, [], ◌∷◌, ◌++◌, ℕ, ◌<◌}
+use Rattle.std.specs.Prelude.{Bool, false, List, [], ◌∷◌, ◌++◌, ℕ, ◌<◌, Option, Some, None}
 use Rattle.placeholder.specs.declared.Fill.{Fill}
 use Rattle.placeholder.specs.declared.Argument.{Argument}
 use Rattle.reading.specs.declared.Piece.{Piece}
@@ -7,9 +7,9 @@ use Rattle.plain.specs.Said.{SaidSpec, said_piece}
 use Rattle.plain.specs.Plain.{plain_fill, plain_align, plain_sign, plain_flag, plain_count, after, plain_hex, is_brace, plain_piece}
 
 -- a fill that is a character
-abbrev pub Inked : Fill → Type 0
-Inked Fill.Absent = Unit {0}
-Inked (Fill.Present c s) = c < 0x110000
+abbrev pub Inked : Option Fill → Type 0
+Inked None = Unit {0}
+Inked (Some f) = f.code < 0x110000
 
 abbrev pub InkedPiece : Piece → Type 0
 InkedPiece (Piece.Literal r) = Unit {0}
@@ -18,6 +18,11 @@ InkedPiece (Piece.Placeholder a) = Inked a.spec.fill
 abbrev pub AllInked : List Piece → Type 0
 AllInked [] = Unit {0}
 AllInked (x ∷ xs) = InkedPiece x × AllInked xs
+
+-- a mark of one byte, where there is one
+abbrev pub plain_mark : Option ℕ → List ℕ
+plain_mark None = []
+plain_mark (Some b) = b ∷ []
 
 -- a placeholder in a text
 abbrev pub argument_of : List ℕ → Argument → List ℕ

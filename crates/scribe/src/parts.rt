@@ -1,9 +1,9 @@
 // The parts of a placeholder in their plain form. Every function lays its part at a place of the buffer and gives the place past it.
-ghost use Rattle.std.specs.Prelude.{◌≡◌, ◌+◌};
+ghost use Rattle.std.specs.Prelude.{◌≡◌, ◌+◌, ◌<◌, List, ℕ};
 ghost use Rattle.pen.specs.Pens.{Fits, Laid, text_of};
 ghost use Rattle.plain.specs.Said.{said_place, said_fill, said_count, said_spec, said_piece};
-ghost use Rattle.plain.specs.Plain.{plain_number, plain_place, plain_fill, plain_align, plain_sign, plain_flag, plain_count, after, plain_hex, plain_spec, doubled, plain_piece};
-ghost use Rattle.scribe.specs.Scribes.{Inked, InkedPiece, marks_of, counts_of, starts_with_brace, argument_of};
+ghost use Rattle.plain.specs.Plain.{plain_number, plain_place, plain_fill, plain_align, plain_sign, plain_flag, plain_count, after, plain_hex, plain_spec, is_brace, doubled, plain_piece};
+ghost use Rattle.scribe.specs.Scribes.{Inked, InkedPiece, plain_mark, marks_of, counts_of, starts_with_brace, argument_of};
 
 use frame::TextRange;
 use pen::{put_byte, put_char, put_number, put_range};
@@ -35,48 +35,64 @@ pub fn put_place(out: &mut [u8], at: usize, text: &[u8], place: Place) -> usize
 }
 
 // A fill, whatever character it is.
-fn put_fill(out: &mut [u8], at: usize, text: &[u8], fill: Fill) -> usize
+fn put_fill(out: &mut [u8], at: usize, text: &[u8], fill: Option<Fill>) -> usize
     requires { Fits at (plain_fill (said_fill text.now fill)) × Inked fill }
     ensures { Laid out.old at (plain_fill (said_fill text.now fill)) result out.new }
 {
     match fill {
-        Fill::Absent => at,
-        Fill::Present(code, _) => put_char(out, at, code),
+        None => at,
+        Some(fill) => put_char(out, at, fill.code),
     }
 }
 
-fn put_align(out: &mut [u8], at: usize, align: Align) -> usize
-    requires { Fits at (plain_align align) }
-    ensures { Laid out.old at (plain_align align) result out.new }
+// A mark of one byte, where there is one.
+fn put_mark(out: &mut [u8], at: usize, mark: Option<u8>) -> usize
+    requires { Fits at (plain_mark mark) }
+    ensures { Laid out.old at (plain_mark mark) result out.new }
+{
+    match mark {
+        None => at,
+        Some(byte) => put_byte(out, at, byte),
+    }
+}
+
+fn align_mark(align: Align) -> Option<u8>
+    ensures { plain_mark result ≡ plain_align align }
 {
     match align {
-        Align::Unknown => at,
-        Align::Left => put_byte(out, at, b'<'),
-        Align::Right => put_byte(out, at, b'>'),
-        Align::Center => put_byte(out, at, b'^'),
+        Align::Unknown => None,
+        Align::Left => Some(b'<'),
+        Align::Right => Some(b'>'),
+        Align::Center => Some(b'^'),
     }
 }
 
-fn put_sign(out: &mut [u8], at: usize, sign: Sign) -> usize
-    requires { Fits at (plain_sign sign) }
-    ensures { Laid out.old at (plain_sign sign) result out.new }
+fn sign_mark(sign: Sign) -> Option<u8>
+    ensures { plain_mark result ≡ plain_sign sign }
 {
     match sign {
-        Sign::Absent => at,
-        Sign::Plus => put_byte(out, at, b'+'),
-        Sign::Minus => put_byte(out, at, b'-'),
+        Sign::Absent => None,
+        Sign::Plus => Some(b'+'),
+        Sign::Minus => Some(b'-'),
     }
 }
 
 // `#` or `0`, where it stands.
-fn put_flag(out: &mut [u8], at: usize, flag: u8, stands: bool) -> usize
-    requires { Fits at (plain_flag flag stands) }
-    ensures { Laid out.old at (plain_flag flag stands) result out.new }
+fn flag_mark(flag: u8, stands: bool) -> Option<u8>
+    ensures { plain_mark result ≡ plain_flag flag stands }
 {
-    if stands {
-        return put_byte(out, at, flag);
+    if stands { Some(flag) } else { None }
+}
+
+// The letter of `x?` and `X?`.
+fn hex_mark(hex: Hex) -> Option<u8>
+    ensures { plain_mark result ≡ plain_hex hex }
+{
+    match hex {
+        Hex::Absent => None,
+        Hex::Lower => Some(b'x'),
+        Hex::Upper => Some(b'X'),
     }
-    at
 }
 
 // A width, or a precision without its dot.
@@ -99,29 +115,25 @@ fn put_count(out: &mut [u8], at: usize, text: &[u8], count: Count) -> usize
     }
 }
 
-// A precision behind its dot: the dot goes before it once it is seen to stand.
+// The mark at a place before what is laid behind it up to another, once that is seen to be something; where it is nothing, no mark stands.
+fn put_before(out: &mut [u8], at: usize, mark: u8, past: usize) -> usize
+    requires { at < 0xFFFFFFFF }
+    ensures { (old xs : List ℕ) → Laid old (at + 1) xs past out.old → Laid old at (after mark xs) result out.new }
+{
+    if past == at + 1 {
+        return at;
+    }
+    put_byte(out, at, mark);
+    past
+}
+
+// A precision behind its dot.
 fn put_precision(out: &mut [u8], at: usize, text: &[u8], count: Count) -> usize
     requires { Fits (at + 1) (plain_count (said_count text.now count)) }
     ensures { Laid out.old at (after 0x2E (plain_count (said_count text.now count))) result out.new }
 {
     let k = put_count(&mut *out, at + 1, text, count);
-    if k == at + 1 {
-        return at;
-    }
-    put_byte(out, at, b'.');
-    k
-}
-
-// The letter of `x?` and `X?`.
-fn put_hex(out: &mut [u8], at: usize, hex: Hex) -> usize
-    requires { Fits at (plain_hex hex) }
-    ensures { Laid out.old at (plain_hex hex) result out.new }
-{
-    match hex {
-        Hex::Absent => at,
-        Hex::Lower => put_byte(out, at, b'x'),
-        Hex::Upper => put_byte(out, at, b'X'),
-    }
+    put_before(out, at, b'.', k)
 }
 
 // What stands before the width: fill, align, sign, `#` and `0`.
@@ -129,14 +141,11 @@ fn put_marks(out: &mut [u8], at: usize, text: &[u8], spec: Spec) -> usize
     requires { Fits at (marks_of (said_spec text.now spec)) × Inked spec.fill }
     ensures { Laid out.old at (marks_of (said_spec text.now spec)) result out.new }
 {
-    let fill = spec.fill;
-    let align = spec.align;
-    let sign = spec.sign;
-    let k = put_fill(&mut *out, at, text, fill);
-    let k = put_align(&mut *out, k, align);
-    let k = put_sign(&mut *out, k, sign);
-    let k = put_flag(&mut *out, k, b'#', spec.alternate);
-    put_flag(out, k, b'0', spec.zero)
+    let k = put_fill(&mut *out, at, text, spec.fill);
+    let k = put_mark(&mut *out, k, align_mark(spec.align));
+    let k = put_mark(&mut *out, k, sign_mark(spec.sign));
+    let k = put_mark(&mut *out, k, flag_mark(b'#', spec.alternate));
+    put_mark(out, k, flag_mark(b'0', spec.zero))
 }
 
 // The width, the precision and the type.
@@ -144,28 +153,27 @@ fn put_counts(out: &mut [u8], at: usize, text: &[u8], spec: Spec) -> usize
     requires { Fits (at + 1) (counts_of (said_spec text.now spec)) }
     ensures { Laid out.old at (counts_of (said_spec text.now spec)) result out.new }
 {
-    let width = spec.width;
-    let precision = spec.precision;
-    let hex = spec.hex;
-    let typetext = spec.typetext;
-    let k = put_count(&mut *out, at, text, width);
-    let k = put_precision(&mut *out, k, text, precision);
-    let k = put_hex(&mut *out, k, hex);
-    put_range(out, k, text, typetext)
+    let k = put_count(&mut *out, at, text, spec.width);
+    let k = put_precision(&mut *out, k, text, spec.precision);
+    let k = put_mark(&mut *out, k, hex_mark(spec.hex));
+    put_range(out, k, text, spec.typetext)
 }
 
-// A spec behind its colon: the colon goes before it once it is seen to stand.
+// A spec behind its colon.
 pub fn put_spec(out: &mut [u8], at: usize, text: &[u8], spec: Spec) -> usize
     requires { Fits (at + 2) (plain_spec (said_spec text.now spec)) × Inked spec.fill }
     ensures { Laid out.old at (after 0x3A (plain_spec (said_spec text.now spec))) result out.new }
 {
     let k = put_marks(&mut *out, at + 1, text, spec);
     let k = put_counts(&mut *out, k, text, spec);
-    if k == at + 1 {
-        return at;
-    }
-    put_byte(out, at, b':');
-    k
+    put_before(out, at, b':', k)
+}
+
+#[tactic(auto, unfolding(utf8::specs::Choice::either))]
+fn is_brace(byte: u8) -> bool
+    ensures { result ≡ is_brace byte }
+{
+    byte == b'{' || byte == b'}'
 }
 
 // Whether a part of the text starts with a brace.
@@ -173,17 +181,7 @@ fn starts_with_brace(text: &[u8], range: TextRange) -> bool
     ensures { result ≡ starts_with_brace (text_of text.now range) }
 {
     let i = range.start.0;
-    let end = range.end.0;
-    if end <= i {
-        return false;
-    }
-    if text.len() <= i {
-        return false;
-    }
-    if text[i] == b'{' {
-        return true;
-    }
-    text[i] == b'}'
+    i < range.end.0 && i < text.len() && is_brace(text[i])
 }
 
 // A literal, whose first brace is written twice.
@@ -204,11 +202,9 @@ fn put_argument(out: &mut [u8], at: usize, text: &[u8], argument: Argument) -> u
     requires { Fits (at + 1) (argument_of text.now argument) × Inked argument.spec.fill }
     ensures { Laid out.old at (argument_of text.now argument) result out.new }
 {
-    let place = argument.place;
-    let spec = argument.spec;
     let k = put_byte(&mut *out, at, b'{');
-    let k = put_place(&mut *out, k, text, place);
-    let k = put_spec(&mut *out, k, text, spec);
+    let k = put_place(&mut *out, k, text, argument.place);
+    let k = put_spec(&mut *out, k, text, argument.spec);
     put_byte(out, k, b'}')
 }
 

@@ -16,12 +16,10 @@ pub fn put_text(out: &mut [u8], text: &[u8], frame: Frame, mode: Mode) -> usize
     ensures { Laid out.old 0 (plain_form (said text.now (pieces text.now frame mode))) result out.new }
 {
     let mut k = 0;
-    let mut turn = next_piece(text, frame, mode, first_cursor(text));
-    while turn.more {
-        let piece = turn.piece;
-        let cursor = turn.cursor;
-        k = put_piece(&mut *out, k, text, piece);
-        turn = next_piece(text, frame, mode, cursor);
+    let mut cursor = first_cursor(text);
+    while let Some(turn) = next_piece(text, frame, mode, cursor) {
+        k = put_piece(&mut *out, k, text, turn.piece);
+        cursor = turn.cursor;
     }
     k
 }

@@ -1,6 +1,6 @@
 -- The law for the editor holds of every reading (Scrolling): a placeholder's faults are recorded before its own piece is listed and stand after its brace,
 -- and a lone `}` is the last step. Rests on AmongLaws, FoundLaws, StepLaws and ListLaws.
-use Rattle.std.specs.Prelude.{ℕ, ◌+◌, ◌≤◌, ◌<◌, ◌≡◌}
+use Rattle.std.specs.Prelude.{ℕ, ◌+◌, ◌≤◌, ◌<◌, ◌≡◌, Some}
 use Rattle.std.proofs.Math.Path.{refl, sym, ap, subst}
 use Rattle.std.proofs.Common.{◌∙◌, le_refl, le_trans, arith, le-ltb, get_or-append-add}
 use mathlib.Core.List.{List, [], ◌∷◌, ◌++◌, append_assoc}
@@ -22,7 +22,6 @@ use Rattle.reading.specs.Records.{record_of}
 use Rattle.reading.specs.Lists.{gather, pieces_of, pieces, listed, findings, found, errors}
 use Rattle.reading.specs.declared.ErrorRecord.{ErrorRecord}
 use Rattle.reading.specs.declared.Fault.{Fault}
-use Rattle.reading.specs.declared.Onward.{Onward}
 use Rattle.reading.specs.declared.Piece.{Piece}
 use Rattle.reading.specs.declared.State.{State}
 use Rattle.reading.specs.declared.Step.{Step}
@@ -123,7 +122,7 @@ ends_last (Step.Stop p) = refl
 ends_last (Step.Literal r) = tt
 ends_last (Step.Placeholder p) = tt
 
-ends_more : (s : State) (x : Step) (xs : List Step) {a : State} → onward s x ≡ Onward.To a → Ends x xs
+ends_more : (s : State) (x : Step) (xs : List Step) {a : State} → onward s x ≡ Some a → Ends x xs
 ends_more s Step.End xs e = tt
 ends_more s (Step.Stop p) xs e = cc
 ends_more s (Step.Literal r) xs e = tt

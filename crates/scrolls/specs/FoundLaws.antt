@@ -1,14 +1,13 @@
 -- Every place that a fault of a placeholder names stands between the placeholder's brace, or any byte before its place, and the end of the text: part by part up to
 -- a whole placeholder, then slot by slot; so every fault of a reading is within the text.
 -- Rests on the definitions of `scan`, `placeholder` and `closing`, and on the laws of where their parts stop.
-use Rattle.std.specs.Prelude.{ℕ, ◌≤◌, Bool, ◌≡◌, List, length}
+use Rattle.std.specs.Prelude.{ℕ, ◌≤◌, Bool, ◌≡◌, List, length, Option, Some, None}
 use Rattle.std.proofs.Common.{sym, ap, ◌∙◌, le_trans}
 use Rattle.std.proofs.Math.Path.{subst}
 use native.Mathlib.Omega.{arith}
 use Rattle.utf8.specs.ChoiceLaws.{pick_elim}
 use Rattle.utf8.specs.Chars.{run_end}
 use Rattle.utf8.specs.CharLaws.{peeked}
-use Rattle.utf8.specs.declared.Seen.{Seen}
 use Rattle.frame.specs.Places.{place, range_of}
 use Rattle.frame.specs.declared.TextPlace.{TextPlace}
 use Rattle.frame.specs.declared.TextRange.{TextRange}
@@ -20,7 +19,6 @@ use Rattle.scan.specs.Counts.{number_count, name_count, count_after, count_read}
 use Rattle.scan.specs.ScanLaws.{seen_elim, run_on, run_in, consumed_on, consumed_in, past_on, past_in, spaces_on, spaces_in, word_on, word_in, number_on, number_in, count_on, count_in}
 use Rattle.scan.specs.declared.CountRead.{CountRead}
 use Rattle.scan.specs.declared.Flaw.{Flaw}
-use Rattle.scan.specs.declared.Number.{Number}
 use Rattle.scan.specs.declared.NumberRead.{NumberRead}
 use Rattle.scan.specs.declared.Numeral.{Numeral}
 use Rattle.placeholder.specs.Places.{raw_place, word_place, place_after, place_read}
@@ -58,6 +56,7 @@ use Rattle.reading.specs.declared.Step.{Step}
 use Rattle.laws.specs.StepLaws.{step_later, Run, reading_run}
 use Rattle.laws.specs.ListLaws.{gather_more, gather_one, found_faults}
 use Rattle.scrolls.specs.AmongLaws.{Among, Every, every_none, every_more, every_append, among_wrong, among_fault}
+use Rattle.utf8.specs.declared.Char.{Char}
 
 module _ (t : List ℕ) (low : ℕ) where
   -- a place, and bytes, from the byte `low` on and within the text
@@ -157,9 +156,9 @@ module _ (t : List ℕ) (low : ℕ) where
     unfolding count_read number_count name_count
     count_between f = ((le_trans h.0 (count_on t f at), count_in t f at h.1), go (number_read t at).number)
       where
-        go : (n : Number) → FlawBetween (count_after t f at (number_read t at) n).flaw
-        go (Number.Given n) = pick_elim (λ (r : CountRead). FlawBetween r.flaw) _ (λ _. number_flaw) (λ _. number_flaw)
-        go Number.Nothing =
+        go : (n : Option Numeral) → FlawBetween (count_after t f at (number_read t at) n).flaw
+        go (Some n) = pick_elim (λ (r : CountRead). FlawBetween r.flaw) _ (λ _. number_flaw) (λ _. number_flaw)
+        go None =
             let P : CountRead → Type 0 = λ r. FlawBetween r.flaw in
             pick_elim P _ (λ _. word_flaw) (λ _. pick_elim P _ (λ _. word_flaw) (λ _. word_flaw))
 
@@ -192,9 +191,9 @@ module _ (t : List ℕ) (low : ℕ) where
     unfolding place_read
     place_between = go (number_read t at).number
       where
-        go : (n : Number) → PlaceBetween (place_after t at (number_read t at) n)
-        go (Number.Given n) = record { at = (le_trans h.0 (number_on t at), number_in t at h.1); flaw = number_flaw at h; raw = tt }
-        go Number.Nothing = word_place_between
+        go : (n : Option Numeral) → PlaceBetween (place_after t at (number_read t at) n)
+        go (Some n) = record { at = (le_trans h.0 (number_on t at), number_in t at h.1); flaw = number_flaw at h; raw = tt }
+        go None = word_place_between
 
     -- an align, and a sign
     align_between : Between (align_read t at).at
@@ -224,7 +223,7 @@ module _ (t : List ℕ) (low : ℕ) where
       fill_between : Between (fill_read t f at).at
       unfolding fill_read
       fill_between =
-          seen_elim (λ (n : Seen). Between (fill_seen t f at n).at) t at.0 (λ _. h)
+          seen_elim (λ (n : Option Char). Between (fill_seen t f at n).at) t at.0 (λ _. h)
           (λ c w e. pick_elim (λ (r : FillRead). Between r.at) _ (λ _. (omega arith, (peeked t at.0 e).room)) (λ _. h))
 
       -- a width without the `0` flag

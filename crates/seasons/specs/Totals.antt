@@ -1,5 +1,5 @@
 -- THE TOTALS of a text and of many: for each line of the report, how often a text counts in it. Rests on the pieces and the errors of a reading.
-use Rattle.std.specs.Prelude.{false, List, [], ◌∷◌, ◌++◌, ℕ, zero, suc, ◌+◌, eqb, replicate}
+use Rattle.std.specs.Prelude.{false, List, [], ◌∷◌, ◌++◌, ℕ, zero, suc, ◌+◌, eqb, replicate, None}
 use Rattle.utf8.specs.Choice.{pick}
 use Rattle.frame.specs.declared.Mode.{Mode}
 use Rattle.scan.specs.declared.Count.{Count}
@@ -8,7 +8,6 @@ use Rattle.placeholder.specs.declared.Place.{Place}
 use Rattle.reading.specs.Answers.{is_broken, frame_for}
 use Rattle.reading.specs.Lists.{gather, pieces, errors}
 use Rattle.reading.specs.declared.ErrorRecord.{ErrorRecord}
-use Rattle.reading.specs.declared.Hashes.{Hashes}
 use Rattle.reading.specs.declared.Piece.{Piece}
 use Rattle.reading.specs.declared.Request.{Request}
 
@@ -78,7 +77,7 @@ sound_lines (e ∷ es) = []
 
 -- "Format texts, no style": nothing else is asked for
 abbrev pub plain : Request
-plain = record { mode = 0; style = Hashes.Plain; given = false; newline = false }
+plain = record { mode = 0; style = None; given = false; newline = false }
 
 -- that the reading of a text counts in
 unfoldable pub read_lines : List ℕ → List ℕ

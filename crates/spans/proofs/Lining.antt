@@ -1,5 +1,6 @@
 -- The lines of literal text, a character, a part or a step at a time, and those that a reading still has. Rests on Filling and
 -- reading's Lines, LineLaws, Lists, ListLaws and WalkLaws.
+use Rattle.std.specs.Prelude.{Option, Some, None}
 use Prim.Native.Nat.{ℕ, ◌+◌, ◌-◌, ◌*◌, ◌≤◌, ◌<◌}
 use mathlib.Core.Path.{◌≡◌, refl, sym, ap, ◌∙◌}
 use mathlib.Core.Bool.{Bool, true, false}
@@ -21,7 +22,6 @@ use Rattle.reading.specs.Lists.{gather, texts_of, literal_chars, is_end, to_the_
 use Rattle.laws.specs.ListLaws.{literal_more, plain_lines}
 use Rattle.reading.specs.declared.State.{State}
 use Rattle.reading.specs.declared.Step.{Step}
-use Rattle.reading.specs.declared.Onward.{Onward}
 use Rattle.spans.specs.Fills.{written, LinesPut, step_chars, last_of}
 use Rattle.spans.specs.declared.LineRun.{LineRun}
 use Rattle.laws.specs.StepLaws.{not_end}
@@ -128,7 +128,7 @@ module _ (t : List ℕ) (f : Frame) where
 
   module _ (line : SnippetPlace) (x : Step) where
     -- those of a step after which reading goes on, and then the others
-    pub lines_left_on : (xs : List Step) (s : State) {a : State} → onward s x ≡ Onward.To a →
+    pub lines_left_on : (xs : List Step) (s : State) {a : State} → onward s x ≡ Some a →
         lines_left t f line (x ∷ xs) ≡ ended_lines f line (step_chars t x) ++ lines_left t f (line_start f line (step_chars t x)) xs
     unfolding lines_left to_the_end pick
     lines_left_on xs s g =
@@ -150,9 +150,9 @@ module _ (t : List ℕ) (f : Frame) where
 
   module _ (m : Mode) where
     -- those after a step: the last line where reading is over, those from the next step on where it goes on
-    abbrev pub lines_after : ℕ → SnippetPlace → Step → Onward → List Span
-    lines_after k line x Onward.Over = last_of f line x
-    lines_after k line x (Onward.To a) = lines_left t f line (steps_from k t f m a)
+    abbrev pub lines_after : ℕ → SnippetPlace → Step → Option State → List Span
+    lines_after k line x None = last_of f line x
+    lines_after k line x (Some a) = lines_left t f line (steps_from k t f m a)
 
     module _ (s : State) {x : Step} (e : x ≡ step_at t f m s) (k : ℕ) (some : 0 < k) where
       -- a step's argument places, and then the others
@@ -166,10 +166,10 @@ module _ (t : List ℕ) (f : Frame) where
           ended_lines f line (step_chars t x) ++ lines_after (k - 1) (line_start f line (step_chars t x)) x (onward s x)
       lines_some line = go (onward s x) refl
         where
-          go : (o : Onward) → onward s x ≡ o → lines_left t f line (steps_from k t f m s) ≡
+          go : (o : Option State) → onward s x ≡ o → lines_left t f line (steps_from k t f m s) ≡
               ended_lines f line (step_chars t x) ++ lines_after (k - 1) (line_start f line (step_chars t x)) x o
-          go Onward.Over g = ap (lines_left t f line) (steps_over t f m s e k some g) ∙ lines_left_over line x
-          go (Onward.To a) g =
+          go None g = ap (lines_left t f line) (steps_over t f m s e k some g) ∙ lines_left_over line x
+          go (Some a) g =
               ap (lines_left t f line) (steps_on t f m s e k some g) ∙ lines_left_on line x (steps_from (k - 1) t f m a) s g
 
       module _ {old new : List ℕ} {all : List Span} (run : LineRun) (room : 2 * (0 + length all) ≤ length old)

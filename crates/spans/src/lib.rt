@@ -11,8 +11,7 @@ ghost use Rattle.spans.specs.Fills.{written, Put, LinesPut, step_chars, last_of}
 
 use closing::whole::Closing;
 use frame::{Frame, Mode, SnippetPlace, Span, TextPlace, TextRange};
-use reading::{Onward, State, Step};
-use utf8::Seen;
+use reading::{State, Step};
 
 // Where the current line starts, and how many lines are written.
 #[derive(Clone, Copy)]
@@ -53,20 +52,15 @@ fn put_closed(
 }
 
 // Writes a step's argument place, if it has one, and says how many there are.
+#[tactic(auto, using(crate::proofs::Filling::put_none))]
 fn put_place(text: &[u8], frame: Frame, step: Step, out: &mut [usize], n: usize) -> usize
     requires { Small text.now frame × (2 * (n + length (places_of text.now frame step)) ≤ length out.old) }
     ensures { Put out.old n (places_of text.now frame step) out.new result }
 {
     match step {
-        Step::End => n,
-        Step::Stop(_) => n,
-        Step::Literal(_) => n,
+        Step::End | Step::Stop(_) | Step::Literal(_) => n,
         Step::Placeholder(read) => {
-            let argument = read.argument;
-            let range = argument.range;
-            let brace = range.start;
-            let closing = read.closing;
-            put_closed(text, frame, brace, closing, out, n)
+            put_closed(text, frame, read.argument.range.start, read.closing, out, n)
         }
     }
 }
@@ -85,32 +79,25 @@ pub fn fill_places(text: &[u8], frame: Frame, mode: Mode, out: &mut [usize])
         arguments: 0,
     };
     let mut n = 0;
-    let mut left = text.len() + 1;
-    while 0 < left {
+    for _ in 0..text.len() + 1 {
         let step = steps::step_at(text, frame, mode, state);
         n = put_place(text, frame, step, &mut *out, n);
-        match steps::go_on(state, step) {
-            Onward::Over => {
-                return;
-            }
-            Onward::To(after) => {
-                state = after;
-                left -= 1;
-            }
-        }
+        let Some(after) = steps::go_on(state, step) else {
+            return;
+        };
+        state = after;
     }
 }
 
 // The line's start, past a character that is whitespace and stands there.
+#[tactic(auto, unfolding(reading::specs::Lines::cut, utf8::specs::Choice::pick))]
 fn cut_line(frame: Frame, line: SnippetPlace, code: u32, at: usize, width: usize) -> SnippetPlace
     requires { (at + width ≤ 65535) × (frame.quote ≤ 257) }
     ensures { result ≡ cut frame line (ch code at width) }
 {
     let start = frame::to_snippet(frame, TextPlace(at));
-    if start.0 == line.0 {
-        if letters::is_space(code) {
-            return frame::to_snippet(frame, TextPlace(at + width));
-        }
+    if start.0 == line.0 && letters::is_space(code) {
+        return frame::to_snippet(frame, TextPlace(at + width));
     }
     line
 }
@@ -137,9 +124,8 @@ fn put_char(
             count: run.count + 1,
         };
     }
-    let start = cut_line(frame, line, code, at, width);
     LineRun {
-        line: start,
+        line: cut_line(frame, line, code, at, width),
         count: run.count,
     }
 }
@@ -152,16 +138,13 @@ fn put_part(text: &[u8], frame: Frame, part: TextRange, run: LineRun, out: &mut 
     let end = part.end.0;
     let mut i = part.start.0;
     let mut on = run;
+    // `while`: a place goes on by its character's width, which no range gives.
     while i < end {
-        match utf8::peek(text, i) {
-            Seen::Char { code, width } => {
-                on = put_char(frame, on, code, i, width, &mut *out);
-                i += width;
-            }
-            Seen::End => {
-                return on;
-            }
-        }
+        let Some(seen) = utf8::peek(text, i) else {
+            return on;
+        };
+        on = put_char(frame, on, seen.code, i, seen.width, &mut *out);
+        i += seen.width;
     }
     on
 }
@@ -179,10 +162,7 @@ fn put_missing(
 {
     match closing {
         Closing::Closed(_) => run,
-        Closing::Missing(_, on) => {
-            let part = on.text;
-            put_part(text, frame, part, run, out)
-        }
+        Closing::Missing(_, on) => { put_part(text, frame, on.text, run, out) }
     }
 }
 
@@ -192,30 +172,27 @@ fn put_step(text: &[u8], frame: Frame, step: Step, run: LineRun, out: &mut [usiz
     ensures { LinesPut frame run (step_chars text.now step) out.old out.new result }
 {
     match step {
-        Step::End => run,
-        Step::Stop(_) => run,
+        Step::End | Step::Stop(_) => run,
         Step::Literal(view) => put_part(text, frame, view, run, out),
         Step::Placeholder(read) => {
-            let part = read.text;
-            let closing = read.closing;
-            let on = put_part(text, frame, part, run, &mut *out);
-            put_missing(text, frame, closing, on, out)
+            let on = put_part(text, frame, read.text, run, &mut *out);
+            put_missing(text, frame, read.closing, on, out)
         }
     }
 }
 
 // The last line, at the end of the text; a stop adds none.
+#[tactic(auto, using(crate::proofs::Filling::written_none), unfolding(utf8::specs::Choice::pick))]
 fn put_last(frame: Frame, step: Step, run: LineRun, out: &mut [usize])
     requires { 2 * (run.count + length (last_of frame run.line step)) ≤ length out.old }
     ensures { out.new ≡ written out.old run.count (last_of frame run.line step) }
 {
-    let line = run.line;
-    let end = frame.end;
-    match step {
-        Step::End => put_span(out, run.count, Span { start: line, end }),
-        Step::Stop(_) => {}
-        Step::Literal(_) => {}
-        Step::Placeholder(_) => {}
+    if let Step::End = step {
+        let last = Span {
+            start: run.line,
+            end: frame.end,
+        };
+        put_span(out, run.count, last);
     }
 }
 
@@ -236,19 +213,13 @@ pub fn fill_lines(text: &[u8], frame: Frame, mode: Mode, out: &mut [usize])
         line: frame::to_snippet(frame, TextPlace(0)),
         count: 0,
     };
-    let mut left = text.len() + 1;
-    while 0 < left {
+    for _ in 0..text.len() + 1 {
         let step = steps::step_at(text, frame, mode, state);
         run = put_step(text, frame, step, run, &mut *out);
-        match steps::go_on(state, step) {
-            Onward::Over => {
-                put_last(frame, step, run, out);
-                return;
-            }
-            Onward::To(after) => {
-                state = after;
-                left -= 1;
-            }
-        }
+        let Some(after) = steps::go_on(state, step) else {
+            put_last(frame, step, run, out);
+            return;
+        };
+        state = after;
     }
 }

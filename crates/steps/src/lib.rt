@@ -9,12 +9,13 @@ ghost use Rattle.laws.specs.Numbered.{Few};
 
 use crate::wants::{argument_wants, larger_of};
 use frame::{Frame, Mode, TextPlace, TextRange};
-use reading::{Onward, State, Step};
+use reading::{State, Step};
 
 pub mod text; // text.rt: a literal's bytes
 pub mod wants; // wants.rt: how many arguments a piece wants
 
 // After the `{` at `brace`: a second one doubles it, and the literal's view starts there; else a placeholder.
+#[tactic(auto, unfolding(reading::specs::Steps::after_open, utf8::specs::Choice::pick))]
 fn after_open(
     text: &[u8],
     frame: Frame,
@@ -27,24 +28,23 @@ fn after_open(
     ensures { result ≡ after_open text.now frame mode brace at next }
 {
     let second = scan::consume(text, at, b'{');
-    let past = second.at;
     if second.ate {
-        let end = scan::string_end(utf8::whole(text), past);
+        let end = scan::string_end(utf8::whole(text), second.at);
         return Step::Literal(TextRange { start: at, end });
     }
     Step::Placeholder(closing::whole::placeholder(text, frame, mode, brace, at, next))
 }
 
 // After the `}` at `brace`: a second one doubles it; alone it stops the reading.
+#[tactic(auto, unfolding(reading::specs::Steps::after_close, utf8::specs::Choice::pick))]
 fn after_close(text: &[u8], brace: TextPlace, at: TextPlace) -> Step
     ensures { result ≡ after_close text.now brace at }
 {
     let second = scan::consume(text, at, b'}');
-    let past = second.at;
     if !second.ate {
         return Step::Stop(brace);
     }
-    let end = scan::string_end(utf8::whole(text), past);
+    let end = scan::string_end(utf8::whole(text), second.at);
     Step::Literal(TextRange { start: at, end })
 }
 
@@ -58,45 +58,35 @@ pub fn step_at(text: &[u8], frame: Frame, mode: Mode, state: State) -> Step
         return Step::End;
     }
     let open = scan::consume(text, at, b'{');
-    let past = open.at;
     if open.ate {
-        return after_open(text, frame, mode, at, past, state.next);
+        return after_open(text, frame, mode, at, open.at, state.next);
     }
     let close = scan::consume(text, at, b'}');
-    let past = close.at;
     if close.ate {
-        return after_close(text, at, past);
+        return after_close(text, at, close.at);
     }
     let end = scan::string_end(utf8::whole(text), at);
     Step::Literal(TextRange { start: at, end })
 }
 
 // Where reading goes on after a step from a state, and how many arguments the pieces so far want.
-pub fn go_on(state: State, step: Step) -> Onward
+#[tactic(auto, unfolding(reading::specs::Wants::argument_wants))]
+pub fn go_on(state: State, step: Step) -> Option<State>
     requires { Few step }
     ensures { result ≡ onward state step }
 {
     match step {
-        Step::End => Onward::Over,
-        Step::Stop(_) => Onward::Over,
-        Step::Literal(view) => {
-            let at = view.end;
-            Onward::To(State {
-                at,
-                next: state.next,
-                arguments: state.arguments,
-            })
-        }
+        Step::End | Step::Stop(_) => None,
+        Step::Literal(view) => Some(State {
+            at: view.end,
+            ..state
+        }),
         Step::Placeholder(read) => {
-            let at = read.at;
             let argument = read.argument;
-            let place = argument.place;
             let spec = argument.spec;
-            let width = spec.width;
-            let precision = spec.precision;
-            let own = argument_wants(place, width, precision);
-            Onward::To(State {
-                at,
+            let own = argument_wants(argument.place, spec.width, spec.precision);
+            Some(State {
+                at: read.at,
                 next: read.next,
                 arguments: larger_of(state.arguments, own),
             })
@@ -109,9 +99,7 @@ pub fn given_by(step: Step) -> usize
     ensures { result ≡ given_by step }
 {
     match step {
-        Step::End => 0,
-        Step::Stop(_) => 0,
-        Step::Literal(_) => 0,
+        Step::End | Step::Stop(_) | Step::Literal(_) => 0,
         Step::Placeholder(read) => read.given,
     }
 }

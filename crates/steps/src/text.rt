@@ -9,33 +9,23 @@ use frame::TextRange;
 const LAST_BEHIND: u8 = 0xBF;
 
 // Whether a place is within the text and stands before no byte 80 to BF.
+#[tactic(auto, unfolding(reading::specs::Texts::is_boundary, utf8::specs::Choice::pick, utf8::specs::Choice::within))]
 fn is_boundary(text: &[u8], at: usize) -> bool
     ensures { result ≡ is_boundary text.now at }
 {
     if at < text.len() {
         let b = text[at];
-        if b < 0x80 {
-            return true;
-        }
-        if b <= LAST_BEHIND {
-            return false;
-        }
-        return true;
+        b < 0x80 || LAST_BEHIND < b
+    } else {
+        at == text.len()
     }
-    at == text.len()
 }
 
 // Whether a range is not reversed, is within the text, and cuts no character.
 fn is_part(text: &[u8], start: usize, end: usize) -> bool
     ensures { result ≡ both (leb start end) (both (is_boundary text.now start) (is_boundary text.now end)) }
 {
-    if start <= end {
-        if is_boundary(text, start) {
-            return is_boundary(text, end);
-        }
-        return false;
-    }
-    false
+    start <= end && is_boundary(text, start) && is_boundary(text, end)
 }
 
 // The bytes of a range, or the empty part at the start where the range is reversed, passes the end, or cuts a character.

@@ -7,13 +7,11 @@ use placeholder::Place;
 use scan::{Count, Numeral};
 
 // The larger of two numbers.
+#[tactic(auto, unfolding(reading::specs::Wants::larger, utf8::specs::Choice::pick))]
 pub fn larger_of(a: usize, b: usize) -> usize
     ensures { result ≡ larger a b }
 {
-    if a < b {
-        return b;
-    }
-    a
+    a.max(b)
 }
 
 // By a number that is written: over range, nothing.
@@ -44,9 +42,7 @@ fn count_wants(count: Count) -> usize
     ensures { result ≡ count_wants count }
 {
     match count {
-        Count::Implied => 0,
-        Count::Fixed(_) => 0,
-        Count::ByName(_, _) => 0,
+        Count::Implied | Count::Fixed(_) | Count::ByName(_, _) => 0,
         Count::ByArgument(number) => numeral_wants(number),
         Count::ByStar(n) => n + 1,
     }
@@ -57,7 +53,6 @@ pub fn argument_wants(place: Place, width: Count, precision: Count) -> usize
     requires { FewPlace place × FewCount width × FewCount precision }
     ensures { result ≡ larger (place_wants place) (larger (count_wants width) (count_wants precision)) }
 {
-    let own = place_wants(place);
     let counts = larger_of(count_wants(width), count_wants(precision));
-    larger_of(own, counts)
+    larger_of(place_wants(place), counts)
 }

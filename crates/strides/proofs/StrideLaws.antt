@@ -1,7 +1,7 @@
 -- Why no reading takes more moves: the characters before the place where it stopped, with a lone `}` there, are characters of the text; and what is
 -- given back is paid step by step (PayLaws), so that it is no more than these. Rests on LeftLaws, PayLaws, StepLaws and MoveLaws.
 use Prim.Native.Nat.{ℕ, zero, suc, ◌+◌, ◌*◌, ◌≤◌, ◌<◌, zero-le}
-use Rattle.std.specs.Prelude.{◌≡◌, true, List, ltb, length}
+use Rattle.std.specs.Prelude.{◌≡◌, true, List, ltb, length, Option, Some, None}
 use Rattle.std.proofs.Math.Path.{refl}
 use Rattle.std.proofs.Common.{sym, ◌∙◌, subst, ltb-true, eqb-true}
 use native.Mathlib.Omega.{arith}
@@ -19,7 +19,6 @@ use Rattle.reading.specs.declared.Request.{Request}
 use Rattle.reading.specs.declared.Rooms.{Rooms}
 use Rattle.reading.specs.declared.State.{State}
 use Rattle.reading.specs.declared.Step.{Step}
-use Rattle.reading.specs.declared.Onward.{Onward}
 use Rattle.laws.specs.StateLaws.{standing, last_state}
 use Rattle.laws.specs.StepLaws.{Run, reading_run}
 use Rattle.laws.specs.MoveLaws.{given_by, given_in, given, stop_of, lone, moves_told, given_over}
@@ -35,9 +34,9 @@ record Strode (t : List ℕ) (m : Mode) (i j g : ℕ) : Type 0 where
   pub few : g + conts t i + left t j ≤ left t i + conts t j
   pub mode : Gives m g
 
-abbrev Strides : List ℕ → Mode → State → Step → Onward → Type 0
-Strides t m s x Onward.Over = Unit {0}
-Strides t m s x (Onward.To s') = Strode t m s.at.0 s'.at.0 (given_by x)
+abbrev Strides : List ℕ → Mode → State → Step → Option State → Type 0
+Strides t m s x None = Unit {0}
+Strides t m s x (Some s') = Strode t m s.at.0 s'.at.0 (given_by x)
 
 module _ (t : List ℕ) (f : Frame) (m : Mode) where
   module _ (s : State) where
@@ -89,7 +88,7 @@ module _ (t : List ℕ) (f : Frame) (m : Mode) where
         (λ _. pick_elim P _ open_strides (λ _. pick_elim P _ close_strides (λ _. text_strides)))
         (λ _. tt)
 
-    strode : {x : Step} {s' : State} → x ≡ step_at t f m s → onward s x ≡ Onward.To s' → Strode t m s.at.0 s'.at.0 (given_by x)
+    strode : {x : Step} {s' : State} → x ≡ step_at t f m s → onward s x ≡ Some s' → Strode t m s.at.0 s'.at.0 (given_by x)
     strode {x} e o = subst (Strides t m s x) o (rw e step_strides)
 
   -- what a run gives back, and the continuations where it starts, are no more than the characters left there
@@ -122,10 +121,10 @@ module _ (t : List ℕ) (f : Frame) (m : Mode) where
   last_reached zero s = reached_none s.at.0
   last_reached (suc k) s = go (onward s (step_at t f m s)) refl (λ s'. last_reached k s')
     where
-      go : (o : Onward) → onward s (step_at t f m s) ≡ o → ((s' : State) → Reached t s'.at.0 (last_state k t f m s').at.0) →
+      go : (o : Option State) → onward s (step_at t f m s) ≡ o → ((s' : State) → Reached t s'.at.0 (last_state k t f m s').at.0) →
           Reached t s.at.0 (standing (last_state k t f m) s o).at.0
-      go Onward.Over e on = reached_none s.at.0
-      go (Onward.To s') e on = reached_then (strode s refl e).reached (on s')
+      go None e on = reached_none s.at.0
+      go (Some s') e on = reached_then (strode s refl e).reached (on s')
 
   lone_left : (i : ℕ) → lone t i ≤ left t i
   unfolding lone

@@ -1,7 +1,7 @@
 -- How many characters are left from a place on, and how many continuations stand there before anything else; and that the word at a place is its first
 -- character and the continuations behind it, or nothing. Rests on `utf8`'s laws of characters and `scan`'s of what is passed.
 use Prim.Native.Nat.{ℕ, suc, ◌+◌, ◌≤◌, ◌<◌}
-use Rattle.std.specs.Prelude.{◌≡◌, Bool, T, eqb}
+use Rattle.std.specs.Prelude.{◌≡◌, Bool, T, eqb, Some, None}
 use Rattle.std.proofs.Math.Path.{refl, ap}
 use Rattle.std.proofs.Common.{sym, ◌∙◌, true≢false, arith, eqb-true}
 use Rattle.std.proofs.Math.Bool.{true, false}
@@ -9,10 +9,9 @@ use mathlib.Core.List.{List, [], ◌∷◌}
 use Rattle.std.proofs.Math.ListN.{length}
 use Rattle.utf8.specs.Choice.{pick}
 use Rattle.utf8.specs.ChoiceLaws.{pick_elim, not_so}
-use Rattle.utf8.specs.Utf8.{peek_at}
+use Rattle.utf8.specs.Utf8.{peek_at, char}
 use Rattle.utf8.specs.Chars.{Ch, chars_from, chars_of, take_while, run_end}
 use Rattle.utf8.specs.CharLaws.{peeked, ended, first, none_left, past_end, before_past, run_more, run_stop, run_end_lem}
-use Rattle.utf8.specs.declared.Seen.TheVariants.{Char, End}
 use Rattle.letters.specs.Questions.{is_start, is_continue, is_space}
 use Rattle.letters.specs.QuestionLaws.{among, marks, mark_no_continue, mark_no_start, continue_no_space}
 use Rattle.frame.specs.declared.TextPlace.{TextPlace}
@@ -89,15 +88,15 @@ module _ (t : List ℕ) where
         go (c ∷ cs) e = omega arith
 
     -- the character that is seen is one of those that are left
-    pub char_left : {c w : ℕ} → peek_at t i ≡ Char c w → left t i ≡ 1 + left t (i + w)
+    pub char_left : {c w : ℕ} → peek_at t i ≡ Some (char c w) → left t i ≡ 1 + left t (i + w)
     char_left e = omega (arith, ap length (peeked t i e).list)
 
     -- where it is no continuation none stands there, and so at the end
-    pub conts_none : {c w : ℕ} → peek_at t i ≡ Char c w → is_continue c ≡ false → conts t i ≡ 0
+    pub conts_none : {c w : ℕ} → peek_at t i ≡ Some (char c w) → is_continue c ≡ false → conts t i ≡ 0
     unfolding take_while pick
     conts_none e n = rw ((peeked t i e).list, n)
 
-    pub conts_end : peek_at t i ≡ End → conts t i ≡ 0
+    pub conts_end : peek_at t i ≡ None → conts t i ≡ 0
     unfolding take_while
     conts_end e = rw (ended t i e)
 
@@ -107,7 +106,7 @@ module _ (t : List ℕ) where
     mark_conts x l m y = conts_none at.0 (is_at_seen t at x l y) (mark_no_continue x m)
 
     -- THE WORD is the character that is seen and the continuations behind it, or nothing
-    pub word_short : {c w : ℕ} → peek_at t at.0 ≡ Char c w → word_length t at ≤ 1 + conts t (at.0 + w)
+    pub word_short : {c w : ℕ} → peek_at t at.0 ≡ Some (char c w) → word_length t at ≤ 1 + conts t (at.0 + w)
     unfolding word_end
     word_short {c} {w} e =
         rw e
@@ -123,7 +122,7 @@ module _ (t : List ℕ) where
     mark_word x l m y = rw (is_at_seen t at x l y, mark_no_start x m) (ap length (before_past t at.0 at.0 (omega arith)))
 
     -- WHERE A CONTINUATION STANDS no whitespace is passed, and no mark stands
-    module _ {c w : ℕ} (e : peek_at t at.0 ≡ Char c w) (y : is_continue c ≡ true) where
+    module _ {c w : ℕ} (e : peek_at t at.0 ≡ Some (char c w)) (y : is_continue c ≡ true) where
       pub no_spaces : spaces_past t at ≡ at
       unfolding spaces_past
       no_spaces = rw (run_stop is_space (peeked t at.0 e) (continue_no_space c y))

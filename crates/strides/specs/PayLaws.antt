@@ -1,15 +1,13 @@
 -- What is given back is paid: a part that gives characters back has passed as many, or leaves so many continuations where it ends; from a count up to a
 -- whole placeholder. And only a Format spec gives any back. Rests on LeftLaws and closing's OnwardLaws.
-use Rattle.std.specs.Prelude.{ℕ, ◌+◌, ◌≤◌, ◌<◌, ◌≡◌, refl, Bool, true, false, List, ◌⊎◌, ltb, length}
+use Rattle.std.specs.Prelude.{ℕ, ◌+◌, ◌≤◌, ◌<◌, ◌≡◌, refl, Bool, true, false, List, ◌⊎◌, ltb, length, Option, Some, None}
 use Rattle.std.proofs.Common.{sym, ◌∙◌}
 use Rattle.std.proofs.Math.Logic.{inl, inr}
 use Rattle.std.proofs.Math.Nat.{add-zero}
 use native.Mathlib.Omega.{arith}
 use Rattle.utf8.specs.Choice.{pick}
 use Rattle.utf8.specs.ChoiceLaws.{pick_elim, both_false}
-use Rattle.utf8.specs.Utf8.{peek_at}
-use Rattle.utf8.specs.declared.Seen.{Seen}
-use Rattle.utf8.specs.declared.Seen.TheVariants.{Char, End}
+use Rattle.utf8.specs.Utf8.{peek_at, char}
 use Rattle.letters.specs.Questions.{is_continue}
 use Rattle.frame.specs.declared.TextPlace.{TextPlace}
 use Rattle.frame.specs.declared.Frame.{Frame}
@@ -20,7 +18,6 @@ use Rattle.scan.specs.Counts.{number_count, name_count, count_after, count_read}
 use Rattle.scan.specs.ScanLaws.{is_at_seen, consumed_some, consumed_is, consumed_none}
 use Rattle.scan.specs.ReachLaws.{Reached, reached_none, reached_then, reached_consumed, reached_spaces, reached_text, reached_word, reached_left}
 use Rattle.scan.specs.declared.CountRead.{CountRead}
-use Rattle.scan.specs.declared.Number.{Number}
 use Rattle.placeholder.specs.Parts.{is_align, fill_read, align_read, sign_read, plain_width, width_read, after_dot, precision_read}
 use Rattle.placeholder.specs.Types.{hex_type, debug_type, word_type, type_read}
 use Rattle.placeholder.specs.Format.{format_read}
@@ -39,6 +36,8 @@ use Rattle.closing.specs.declared.recover.Hint.{Hint}
 use Rattle.closing.specs.declared.recover.Recovery.{Recovery}
 use Rattle.closing.specs.declared.whole.PlaceholderRead.{PlaceholderRead}
 use Rattle.strides.specs.LeftLaws.{left, conts, word_length, char_left, conts_none, conts_end, mark_conts, word_short, mark_word, no_spaces, no_mark}
+use Rattle.scan.specs.declared.Numeral.{Numeral}
+use Rattle.utf8.specs.declared.Char.{Char}
 
 -- WHAT A MODE MAY GIVE BACK: in Format any number, in the others none
 abbrev pub Gives : Mode → ℕ → Type 0
@@ -83,9 +82,9 @@ module _ (t : List ℕ) (f : Frame) where
       P : CountRead → Type 0
       P r = r.given ≤ word_length t r.at
 
-      go : (n : Number) → P (count_after t f at (number_read t at) n)
-      go (Number.Given n) = pick_elim P _ (λ _. omega arith) (λ _. omega arith)
-      go Number.Nothing = pick_elim P _ (λ _. omega arith) (λ _. pick_elim P _ (λ _. omega arith) (λ _. omega arith))
+      go : (n : Option Numeral) → P (count_after t f at (number_read t at) n)
+      go (Some n) = pick_elim P _ (λ _. omega arith) (λ _. omega arith)
+      go None = pick_elim P _ (λ _. omega arith) (λ _. pick_elim P _ (λ _. omega arith) (λ _. omega arith))
 
   -- and so does a width
   width_word : (at : TextPlace) → (width_read t f at).given ≤ word_length t (width_read t f at).at
@@ -231,7 +230,7 @@ module _ (t : List ℕ) (f : Frame) where
           go (inr p) = p
 
       -- and where a continuation stands it passes nothing
-      recover_stays : {c w : ℕ} → peek_at t at.0 ≡ Char c w → is_continue c ≡ true → recover_read t f m from i at n ≡ passed_to at n Hint.Silent
+      recover_stays : {c w : ℕ} → peek_at t at.0 ≡ Some (char c w) → is_continue c ≡ true → recover_read t f m from i at n ≡ passed_to at n Hint.Silent
       unfolding recover_read is_align pick
       recover_stays e y =
           let no = no_mark t at e y in
@@ -252,7 +251,7 @@ module _ (t : List ℕ) (f : Frame) where
 
       -- where one does, nothing follows
       continue_paid : {c w : ℕ} → let r = placeholder_read t f m brace at n in
-          peek_at t (argument_read t f m at n).at.0 ≡ Char c w → is_continue c ≡ true → Paid t m at.0 r.at.0 r.given
+          peek_at t (argument_read t f m at n).at.0 ≡ Some (char c w) → is_continue c ≡ true → Paid t m at.0 r.at.0 r.given
       unfolding placeholder_read missing_read
       continue_paid e y =
           let a = argument_read t f m at n in
@@ -269,10 +268,10 @@ module _ (t : List ℕ) (f : Frame) where
           Goal : Type 0
           Goal = let r = placeholder_read t f m brace at n in Paid t m at.0 r.at.0 r.given
 
-          seen : {c w : ℕ} → peek_at t (argument_read t f m at n).at.0 ≡ Char c w → (b : Bool) → is_continue c ≡ b → Goal
+          seen : {c w : ℕ} → peek_at t (argument_read t f m at n).at.0 ≡ Some (char c w) → (b : Bool) → is_continue c ≡ b → Goal
           seen e true y = continue_paid e y
           seen e false n = clear_paid (conts_none t _ e n)
 
-          go : (x : Seen) → peek_at t (argument_read t f m at n).at.0 ≡ x → Goal
-          go End e = clear_paid (conts_end t _ e)
-          go (Char c w) e = seen e (is_continue c) refl
+          go : (x : Option Char) → peek_at t (argument_read t f m at n).at.0 ≡ x → Goal
+          go None e = clear_paid (conts_end t _ e)
+          go (Some x) e = seen e (is_continue x.code) refl

@@ -1,5 +1,6 @@
 -- Laws of the counts: what some steps come to, a step at a time, and that the counts of a whole reading are the lengths of its lists.
 -- Rests on Lists and ListLaws.
+use Rattle.std.specs.Prelude.{Option, Some, None}
 use Prim.Native.Nat.{ℕ, ◌+◌, ◌-◌, ◌≤◌, ◌<◌}
 use mathlib.Core.Path.{◌≡◌, refl, sym, ◌∙◌, ap, subst}
 use mathlib.Core.Bool.{Bool, true, false}
@@ -23,7 +24,6 @@ use Rattle.laws.specs.OrderLaws.{lines_plain}
 use Rattle.passing.specs.Clear.{Clear}
 use Rattle.reading.specs.declared.State.{State}
 use Rattle.reading.specs.declared.Step.{Step}
-use Rattle.reading.specs.declared.Onward.{Onward}
 use Rattle.reading.specs.declared.Counts.{Counts}
 
 -- counts of four numbers
@@ -118,7 +118,7 @@ module _ (t : List ℕ) (f : Frame) (x : Step) where
       (ap (λ (n : ℕ). pick f.literal n 0) (lines_one t x))
 
   -- a step after which reading goes on, and those that follow
-  counts_more : (from : State) (xs : List Step) {s : State} → onward from x ≡ Onward.To s →
+  counts_more : (from : State) (xs : List Step) {s : State} → onward from x ≡ Some s →
       counts_in t f (x ∷ xs) ≡ sum (step_counts t f x) (counts_in t f xs)
   unfolding counts_in step_counts gather
   counts_more from xs e =
@@ -176,19 +176,19 @@ pub one_countable : {b : Counts} → b ≡ made 1 0 0 0 → Countable 131070 b
 one_countable e = subst (Countable 131070) (sym e) (omega arith)
 
 -- a turn of the tally, from a state with turns left: the step x there comes to b, and with the counts a before it to c
-module _ (t : List ℕ) (f : Frame) (m : Mode) (k : ℕ) (s : State) (a : Counts) {x : Step} {o : Onward} {b c : Counts} (h : 0 < k)
+module _ (t : List ℕ) (f : Frame) (m : Mode) (k : ℕ) (s : State) (a : Counts) {x : Step} {o : Option State} {b c : Counts} (h : 0 < k)
     (step : x ≡ step_at t f m s) (on : o ≡ onward s x) (count : b ≡ step_counts t f x) (add : c ≡ sum a b) where
   -- where reading goes on, what it all comes to stays
-  pub turn_more : {s' : State} → o ≡ Onward.To s' →
+  pub turn_more : {s' : State} → o ≡ Some s' →
       sum c (counts_in t f (steps_from (k - 1) t f m s')) ≡ sum a (counts_in t f (steps_from k t f m s))
   turn_more {s'} g =
-      let w : onward s (step_at t f m s) ≡ Onward.To s' = cc in
+      let w : onward s (step_at t f m s) ≡ Some s' = cc in
       rw (add, count, sum_assoc, steps_more t f m k s h w, ← step, counts_more t f x s _ (sym on ∙ g))
 
   -- where it is over, it is c
-  pub turn_over : o ≡ Onward.Over → c ≡ sum a (counts_in t f (steps_from k t f m s))
+  pub turn_over : o ≡ None → c ≡ sum a (counts_in t f (steps_from k t f m s))
   turn_over g =
-      let w : onward s (step_at t f m s) ≡ Onward.Over = cc in
+      let w : onward s (step_at t f m s) ≡ None = cc in
       rw (steps_over t f m k s h w, ← step, counts_one t f x, ← count) add
 
 -- with no turn left it is a

@@ -1,7 +1,7 @@
 // How many records each list of a reading needs, how many arguments its pieces want, and how many characters it passes.
 #![tactic(auto)]
 
-ghost use Rattle.std.specs.Prelude.{◌≡◌, true, false, [], ◌∷◌, ◌+◌, ◌≤◌, ◌<◌, length};
+ghost use Rattle.std.specs.Prelude.{◌≡◌, false, [], ◌∷◌, ◌+◌, ◌≤◌, ◌<◌, length, IfSome};
 ghost use Rattle.frame.specs.Bounds.{Small};
 ghost use Rattle.reading.specs.Faults.{flaw_fault, hint_fault, argument_slots, missing_slots, closing_slots, wrong, faults_of};
 ghost use Rattle.reading.specs.Lines.{chars_in, newlines};
@@ -18,9 +18,8 @@ use closing::whole::{Closing, PlaceholderRead};
 use frame::{Frame, Mode, TextPlace, TextRange};
 use passing::Passed;
 use placeholder::ArgumentFlaws;
-use reading::{Counts, Onward, State, Step};
+use reading::{Counts, State, Step};
 use scan::Flaw;
-use utf8::Seen;
 
 // How many records, how many arguments, and how many moves.
 #[derive(Clone, Copy)]
@@ -37,18 +36,15 @@ fn newlines_in(text: &[u8], part: TextRange) -> usize
     let end = part.end.0;
     let mut i = part.start.0;
     let mut n = 0;
+    // `while`: a place goes on by its character's width, which no range gives.
     while i < end {
-        match utf8::peek(text, i) {
-            Seen::Char { code, width } => {
-                if code == 0x0A {
-                    n += 1;
-                }
-                i += width;
-            }
-            Seen::End => {
-                return n;
-            }
+        let Some(seen) = utf8::peek(text, i) else {
+            return n;
+        };
+        if seen.code == 0x0A {
+            n += 1;
         }
+        i += seen.width;
     }
     n
 }
@@ -58,10 +54,8 @@ fn piece_count(step: Step) -> usize
     ensures { result ≡ piece_count step }
 {
     match step {
-        Step::End => 0,
-        Step::Stop(_) => 0,
-        Step::Literal(_) => 1,
-        Step::Placeholder(_) => 1,
+        Step::End | Step::Stop(_) => 0,
+        Step::Literal(_) | Step::Placeholder(_) => 1,
     }
 }
 
@@ -70,16 +64,11 @@ fn place_count(step: Step) -> usize
     ensures { result ≡ place_count step }
 {
     match step {
-        Step::End => 0,
-        Step::Stop(_) => 0,
-        Step::Literal(_) => 0,
-        Step::Placeholder(read) => {
-            let closing = read.closing;
-            match closing {
-                Closing::Closed(_) => 1,
-                Closing::Missing(_, _) => 0,
-            }
-        }
+        Step::End | Step::Stop(_) | Step::Literal(_) => 0,
+        Step::Placeholder(read) => match read.closing {
+            Closing::Closed(_) => 1,
+            Closing::Missing(_, _) => 0,
+        },
     }
 }
 
@@ -89,10 +78,7 @@ fn closing_lines(text: &[u8], closing: Closing) -> usize
 {
     match closing {
         Closing::Closed(_) => 0,
-        Closing::Missing(_, on) => {
-            let part = on.text;
-            newlines_in(text, part)
-        }
+        Closing::Missing(_, on) => newlines_in(text, on.text),
     }
 }
 
@@ -106,59 +92,49 @@ fn line_count(text: &[u8], step: Step) -> usize
         Step::Stop(_) => 0, // "a stop at a lone `}` adds none"
         Step::Literal(view) => newlines_in(text, view),
         Step::Placeholder(read) => {
-            let part = read.text;
-            let closing = read.closing;
-            newlines_in(text, part) + closing_lines(text, closing)
+            newlines_in(text, read.text) + closing_lines(text, read.closing)
         }
     }
 }
 
 // 1 where a leaf found something, else 0.
+#[tactic(auto, unfolding(reading::specs::Faults::wrong, utf8::specs::Choice::pick))]
 fn flaw_count(flaw: Flaw) -> usize
     ensures { (result ≡ length (wrong (flaw_fault flaw ∷ []))) × (result ≤ 1) }
 {
     match flaw {
         Flaw::Clean => 0,
-        Flaw::RawName(_) => 1,
-        Flaw::AfterDebug(_) => 1,
-        Flaw::Underscore(_) => 1,
-        Flaw::TooLarge(_) => 1,
+        _ => 1,
     }
 }
 
 // 1 where something is said, else 0.
+#[tactic(auto, unfolding(reading::specs::Faults::wrong, utf8::specs::Choice::pick))]
 fn hint_count(brace: TextPlace, hint: Hint) -> usize
     ensures { (result ≡ length (wrong (hint_fault brace hint ∷ []))) × (result ≤ 1) }
 {
-    if closing::recover::is_silent(hint) {
-        return 0;
+    match hint {
+        Hint::Silent => 0,
+        _ => 1,
     }
-    1
 }
 
 // How many flaws an argument has.
 fn argument_count(flaws: ArgumentFlaws) -> usize
     ensures { (result ≡ length (wrong (argument_slots flaws))) × (result ≤ 5) }
 {
-    let place = flaws.place;
-    let raw = flaws.raw;
-    let width = flaws.width;
-    let precision = flaws.precision;
-    let typetext = flaws.typetext;
-    flaw_count(place)
-        + flaw_count(raw)
-        + flaw_count(width)
-        + flaw_count(precision)
-        + flaw_count(typetext)
+    flaw_count(flaws.place)
+        + flaw_count(flaws.raw)
+        + flaw_count(flaws.width)
+        + flaw_count(flaws.precision)
+        + flaw_count(flaws.typetext)
 }
 
 // How many faults there are where a closing brace is missing: that it is counts for one.
 fn missing_count(brace: TextPlace, gap: Gap, on: Recovery) -> usize
     ensures { (result ≡ length (wrong (missing_slots brace gap on))) × (result ≤ 8) }
 {
-    let word = on.word;
-    let hint = on.hint;
-    1 + flaw_count(word) + argument_count(on.field) + hint_count(brace, hint)
+    1 + flaw_count(on.word) + argument_count(on.field) + hint_count(brace, on.hint)
 }
 
 // How many faults there are at a placeholder's end.
@@ -176,18 +152,17 @@ fn placeholder_count(read: PlaceholderRead) -> usize
     ensures { (result ≡ length (faults_of (Step.Placeholder read))) × (result ≤ 13) }
 {
     let brace = read.argument.range.start;
-    let closing = read.closing;
-    argument_count(read.flaws) + closing_count(brace, closing)
+    argument_count(read.flaws) + closing_count(brace, read.closing)
 }
 
 // How many faults a step has.
+#[tactic(auto, unfolding(reading::specs::Faults::faults_of, reading::specs::Faults::step_slots, reading::specs::Faults::wrong, utf8::specs::Choice::pick))]
 fn fault_count(step: Step) -> usize
     ensures { (result ≡ length (faults_of step)) × (result ≤ 13) }
 {
     match step {
-        Step::End => 0,
+        Step::End | Step::Literal(_) => 0,
         Step::Stop(_) => 1,
-        Step::Literal(_) => 0,
         Step::Placeholder(read) => placeholder_count(read),
     }
 }
@@ -245,11 +220,10 @@ fn finished(text: &[u8], chars: usize, counts: Counts, state: State, given: usiz
     requires { (chars ≡ length (chars_from text.now 0)) × (length text.now ≤ 65535) × (given ≤ 0xFFFFFFFFFFFF) }
     ensures { result ≡ record { counts = counts; arguments = state.arguments; moves = moves_told text.now state.at.0 given } }
 {
-    let at = state.at;
     Tallied {
         counts,
         arguments: state.arguments,
-        moves: moves_told(text, chars, at.0, given),
+        moves: moves_told(text, chars, state.at.0, given),
     }
 }
 
@@ -260,20 +234,17 @@ fn one_piece_more(counts: Counts) -> Counts
 {
     Counts {
         pieces: counts.pieces + 1,
-        errors: counts.errors,
-        places: counts.places,
-        lines: counts.lines,
+        ..counts
     }
 }
 
 // The step where reading stands, passed where it adds a piece and nothing else. Of a source literal none is: its steps may add argument places and line spans.
-fn pass_piece(text: &[u8], frame: Frame, mode: Mode, state: State) -> Passed
+fn pass_piece(text: &[u8], frame: Frame, mode: Mode, state: State) -> Option<Passed>
     requires { Small text.now frame × (state.next < 0xFFFFE) }
-    ensures { Passes text.now frame mode state result × (result.on ≡ true → frame.literal ≡ false) }
+    ensures { Passes text.now frame mode state result × IfSome result (λ _. frame.literal ≡ false) }
 {
-    let source = frame.literal;
-    if source {
-        return passing::stay(state);
+    if frame.literal {
+        return None;
     }
     passing::pass(text, frame, mode, state)
 }
@@ -296,28 +267,20 @@ pub fn tally(text: &[u8], chars: usize, frame: Frame, mode: Mode) -> Tallied
         lines: 0,
     };
     let mut given = 0;
-    let mut left = text.len() + 1;
-    while 0 < left {
+    for _ in 0..text.len() + 1 {
         // most steps are passed; the others are taken whole
-        let passed = pass_piece(text, frame, mode, state);
-        if passed.on {
+        if let Some(passed) = pass_piece(text, frame, mode, state) {
             state = passed.state;
             counts = one_piece_more(counts);
             given += passed.given;
-            left -= 1;
         } else {
             let step = steps::step_at(text, frame, mode, state);
             counts = add(counts, step_counts(text, frame, step));
             given += steps::given_by(step);
-            match steps::go_on(state, step) {
-                Onward::Over => {
-                    return finished(text, chars, counts, state, given);
-                }
-                Onward::To(after) => {
-                    state = after;
-                    left -= 1;
-                }
-            }
+            let Some(after) = steps::go_on(state, step) else {
+                return finished(text, chars, counts, state, given);
+            };
+            state = after;
         }
     }
     finished(text, chars, counts, state, given)

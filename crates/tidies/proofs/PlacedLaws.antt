@@ -1,11 +1,11 @@
 -- An accepted text by the room of the output; and the call by what is decided before the text is read, then by its errors. Rests on Placed, on
 -- scribe's InkLaws and on the laws of the answer.
-use Rattle.std.specs.Prelude.{◌≡◌, refl, ℕ, ◌≤◌, ◌<◌, eqb}
+use Rattle.std.specs.Prelude.{◌≡◌, refl, ℕ, ◌≤◌, ◌<◌, eqb, None, Result, Ok, Err}
 use Rattle.std.proofs.Math.Path.{ap, sym}
 use Rattle.std.proofs.Common.{◌∙◌, arith}
 use Rattle.std.proofs.Math.Bool.{Bool, true, false}
 use mathlib.Core.List.{List, [], ◌∷◌}
-use borrow.Author.Tests.{eq-eqb, ne_eqb, lt-ltb, le-ltb}
+use borrow.Author.Tests.{ne_eqb, lt-ltb, le-ltb}
 use Rattle.std.proofs.Math.Dec.{ltb}
 use Rattle.std.proofs.Math.ListN.{length}
 use Rattle.utf8.specs.Choice.{pick}
@@ -17,13 +17,14 @@ use Rattle.reading.specs.Lists.{pieces, errors, counts_of}
 use Rattle.reading.specs.Wants.{wants}
 use Rattle.reading.specs.Cases.{ask}
 use Rattle.reading.specs.declared.Counts.{Counts}
-use Rattle.reading.specs.declared.Hashes.{Hashes}
 use Rattle.reading.specs.declared.Request.{Request}
 use Rattle.laws.specs.BrokenLaws.{broken_exactly}
 use Rattle.laws.specs.Deciding as deciding
 use Rattle.answer.specs.Decisions.{Opened}
-use Rattle.answer.specs.DecisionLaws.{opened_small}
-use Rattle.answer.specs.declared.Decision.{Decision}
+use Rattle.answer.specs.DecisionLaws.{never_zero, opened_small}
+use Rattle.answer.specs.Refusals.{number_of, place_of, answer_in}
+use Rattle.answer.specs.declared.Readable.{Readable}
+use Rattle.answer.specs.declared.Refusal.{Refusal}
 use Rattle.pen.specs.Pens.{over, Fits, Laid}
 use Rattle.plain.specs.Said.{said}
 use Rattle.plain.specs.Plain.{plain_form}
@@ -66,7 +67,7 @@ without_room {t} {f} {m} {out} arguments b h e =
 -- THE CALL
 -- the request: no style, no snippet, no newline marked
 abbrev pub asked : ℕ → Request
-asked mode = ask mode Hashes.Plain false false
+asked mode = ask mode None false false
 
 -- the order of the tests: those before the text is read, then errors, then room
 in_order : (over long broken faulty short : Bool) (prefix bytes arguments : ℕ) →
@@ -90,62 +91,60 @@ unfolding pick
 turned true xs ys = refl
 turned false xs ys = refl
 
-module _ (t : List ℕ) (mode : ℕ) {d : Decision} (x : Opened t [] (asked mode) d) where
+module _ (t : List ℕ) (mode : ℕ) where
   -- the answer and the output, by the number that is decided before the text is read
-  decided : (out : List ℕ) →
-      let n = d.answer.number in
+  decided : (r : Result Readable Refusal) → Opened t [] (asked mode) r → (out : List ℕ) →
+      let n = (answer_in r).number in
       let short = ltb (length out) (length (plain_text t mode)) in
       (eqb (refused_as t mode (length out)) 0 ≡ pick (eqb n 0) (pick (is_faulty t mode) false (pick short false true)) false) ×
       (tidied_of t mode (length out) ≡
       pick (eqb n 0)
       (pick (is_faulty t mode) (refused_by 10 0 0) (pick short (refused_by 11 0 (length (plain_text t mode))) (written_by (length (plain_text t mode)) (wanted t mode))))
-      (refused_by n d.answer.place 0)) ×
+      (refused_by n (answer_in r).place 0)) ×
       (n ≡ 0 → is_broken t ≡ false)
   unfolding tidied_of refused_as deciding.open_answer lacks_newline pick
-  decided out = rw x.answer (in_order _ _ _ _ _ _ _ _)
+  decided r x out = rw x.answer (in_order _ _ _ _ _ _ _ _)
 
   -- refused before the text is read
-  pub early : {out : List ℕ} {r : Tidied} → ¬ (d.answer.number ≡ 0) → r ≡ refused_by d.answer.number d.answer.place 0 → Tidies t mode out out r
+  pub early : {e : Refusal} {out : List ℕ} {r : Tidied} → Opened t [] (asked mode) (Err e) → r ≡ refused_by (number_of e) (place_of e) 0 → Tidies t mode out out r
   unfolding output_of pick
-  early {out} n e =
-      let k = decided out in
-      let z = ne_eqb _ _ n in
-      record { answer = e ∙ sym (rw z at k.1); output = rw (rw z at k.0) }
+  early {e} {out} x g =
+      let k = decided (Err e) x out in
+      let z = ne_eqb (number_of e) 0 (never_zero e) in
+      record { answer = g ∙ sym (rw z at k.1); output = rw (rw z at k.0) }
 
-  module _ (z : d.answer.number ≡ 0) {c : Counts} (counted : c ≡ counts_of t d.frame d.mode) where
+  module _ {y : Readable} (x : Opened t [] (asked mode) (Ok y)) {c : Counts} (counted : c ≡ counts_of t y.frame y.mode) where
     its_errors : c.errors ≡ length (errors t (unstyled t) (mode_of mode))
     unfolding counts_of frame_for
-    its_errors = ap (λ (x : Counts). x.errors) counted ∙ rw (x.frame z, x.mode z)
+    its_errors = ap (λ (x : Counts). x.errors) counted ∙ rw (x.readable.frame, x.readable.mode)
 
     -- errors
     pub faulty : {out : List ℕ} {r : Tidied} → 0 < c.errors → r ≡ refused_by 10 0 0 → Tidies t mode out out r
     unfolding output_of is_faulty pick
     faulty {out} h e =
-        let k = decided out in
-        let i = eq-eqb _ _ z in
+        let k = decided (Ok y) x out in
         let f : ltb 0 (length (errors t (unstyled t) (mode_of mode))) ≡ true = lt-ltb _ _ (rw its_errors at h) in
-        record { answer = e ∙ sym (rw (i, f) at k.1); output = rw (rw (i, f) at k.0) }
+        record { answer = e ∙ sym (rw f at k.1); output = rw (rw f at k.0) }
 
     -- none
     module _ (clean : c.errors ≤ 0) where
-      pub is_ready : Ready t d.frame d.mode
+      pub is_ready : Ready t y.frame y.mode
       unfolding frame_for
       is_ready =
           record {
-            small = opened_small t [] (asked mode) x z;
+            small = opened_small t [] (asked mode) x;
             accepted =
-                rw (x.frame z, x.mode z)
-                (record { is_utf8 = (broken_exactly t).0 ((decided []).2 z); no_error = empty (errors t (unstyled t) (mode_of mode)) (rw its_errors at clean) });
+                rw (x.readable.frame, x.readable.mode)
+                (record { is_utf8 = (broken_exactly t).0 ((decided (Ok y) x []).2 refl); no_error = empty (errors t (unstyled t) (mode_of mode)) (rw its_errors at clean) });
           }
 
-      pub by_room : {out out' : List ℕ} {r : Tidied} {arguments : ℕ} → arguments ≡ wants (pieces t d.frame d.mode) →
-          Placed t d.frame d.mode arguments out out' r → Tidies t mode out out' r
+      pub by_room : {out out' : List ℕ} {r : Tidied} {arguments : ℕ} → arguments ≡ wants (pieces t y.frame y.mode) →
+          Placed t y.frame y.mode arguments out out' r → Tidies t mode out out' r
       unfolding output_of is_faulty plain_text wanted frame_for pick
       by_room {out} {out'} w p =
-          let k = decided out in
-          let i = eq-eqb _ _ z in
+          let k = decided (Ok y) x out in
           let f : ltb 0 (length (errors t (unstyled t) (mode_of mode))) ≡ false = le-ltb _ _ (rw its_errors at clean) in
-          record { answer = rw (w, x.frame z, x.mode z) at p.answer ∙ sym (rw (i, f) at k.1); output = go (rw (x.frame z, x.mode z) at p.output) (rw (i, f) at k.0) }
+          record { answer = rw (w, x.readable.frame, x.readable.mode) at p.answer ∙ sym (rw f at k.1); output = go (rw (x.readable.frame, x.readable.mode) at p.output) (rw f at k.0) }
         where
           short : Bool
           short = ltb (length out) (length (plain_text t mode))

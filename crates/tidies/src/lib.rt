@@ -7,7 +7,7 @@ ghost use Rattle.tidiness.specs.Tidies.{Tidies};
 ghost use Rattle.tidies.specs.Placed.{refused_by, Ready, Placed};
 
 use frame::{Frame, Mode};
-use reading::{Hashes, Request};
+use reading::Request;
 use scribe::run::put_text;
 use tidiness::Tidied;
 
@@ -70,20 +70,20 @@ pub fn tidy(text: &[u8], mode: u8, out: &mut [u8]) -> Tidied
 {
     let request = Request {
         mode,
-        style: Hashes::Plain,
+        style: None,
         given: false,
         newline: false,
     };
-    let first = answer::decide::opened(text, b"", request);
-    let answer = first.answer;
-    let frame = first.frame;
-    let grammar = first.mode;
-    if answer.number != 0 {
-        return refused(answer.number, answer.place, 0);
+    match answer::decide::opened(text, b"", request) {
+        Ok(readable) => {
+            let frame = readable.frame;
+            let grammar = readable.mode;
+            let told = tally::tally(text, readable.chars, frame, grammar);
+            if NO_ERROR < told.counts.errors {
+                return refused(10, 0, 0);
+            }
+            placed(out, text, frame, grammar, told.arguments)
+        }
+        Err(refusal) => refused(u8::from(refusal), refusal.place(), 0),
     }
-    let told = tally::tally(text, first.chars, frame, grammar);
-    if NO_ERROR < told.counts.errors {
-        return refused(10, 0, 0);
-    }
-    placed(out, text, frame, grammar, told.arguments)
 }

@@ -1,10 +1,9 @@
 -- THE CALL THAT WRITES A TEXT'S PLAIN FORM: its refusals, its answer and the output that it leaves. Rests on plain's page and the reader's definitions.
-use Rattle.std.specs.Prelude.{◌≡◌, Bool, false, List, [], ◌∷◌, ℕ, ◌≤◌, eqb, ltb, length}
+use Rattle.std.specs.Prelude.{◌≡◌, Bool, false, List, [], ◌∷◌, ℕ, ◌≤◌, eqb, ltb, length, None}
 use Rattle.utf8.specs.Choice.{pick, either}
 use Rattle.utf8.specs.Utf8.{valid_prefix}
 use Rattle.frame.specs.Frames.{frame_of}
 use Rattle.frame.specs.declared.Frame.{Frame}
-use Rattle.frame.specs.declared.Style.{Style}
 use Rattle.reading.specs.Answers.{is_long, is_broken, mode_of, Refusal, refusal, first_of}
 use Rattle.reading.specs.Lists.{pieces, errors}
 use Rattle.reading.specs.Wants.{wants}
@@ -14,7 +13,7 @@ use Rattle.tidiness.specs.declared.Tidied.{Tidied}
 
 -- a text with no style, no snippet and no newline marked, since none of them changes a plain form (R15.12)
 abbrev pub unstyled : List ℕ → Frame
-unstyled t = frame_of t Style.Plain false [] false
+unstyled t = frame_of t None false [] false
 
 -- OF A TEXT and a mode's number: its plain form, the arguments that its pieces want, and whether it has errors
 unfoldable pub plain_text : List ℕ → ℕ → List ℕ

@@ -4,7 +4,7 @@
 // The answer to a call.
 #[derive(Clone, Copy)]
 pub struct Tidied {
-    // A refusal's number; 0: the plain form is written.
+    // A refusal's number; 0: the plain form is written. The rules' number, of which the theorems speak (`tidied_of`), and which C has.
     pub number: u8,
     // How many bytes are UTF-8, where that is why (4), else 0.
     pub place: usize,

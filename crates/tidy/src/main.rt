@@ -2,7 +2,7 @@
 // has none, standard error says why, and standard output stays empty.
 #![tactic(auto)]
 
-use desk::say;
+use frame::Mode;
 use std::io;
 use std::io::Write;
 
@@ -11,12 +11,13 @@ fn answer<W: Write, E: Write>(
     out: &mut W,
     err: &mut E,
     text: &[u8],
-    mode: u8,
+    mode: Mode,
     form: &mut [u8],
 ) -> io::Result<()> {
+    let mode = mode as u8;
     let told = tidies::tidy(text, mode, form);
     if told.number != 0 {
-        say(err, b"no plain form: ")?;
+        write!(err, "no plain form: ")?;
         return desk::say_refused(err, text, mode, told);
     }
     out.write_all(&form[..told.bytes])
@@ -24,10 +25,9 @@ fn answer<W: Write, E: Write>(
 
 fn main(rt: HostRuntime) -> io::Result<()> {
     let mut err = rt.stderr();
-    let mode = desk::mode_asked(&rt, 1);
-    if 2 < mode {
-        return say(&mut err, b"the mode is `format`, `asm` or `diagnostic`\n");
-    }
+    let Some(mode) = desk::mode_asked(&rt, 1) else {
+        return writeln!(err, "the mode is `format`, `asm` or `diagnostic`");
+    };
     // One byte more than the longest text that is read: a longer input is read far enough to be refused as 3.
     let mut text = [0u8; 65536];
     let length = intake::read_full(&mut rt.stdin(), &mut text)?;

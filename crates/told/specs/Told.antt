@@ -1,22 +1,38 @@
 -- What is told of a placeholder, as it is written. Rests on words' Layout, quick's Tellings and passing's After.
-use Rattle.std.specs.Prelude.{ℕ, ◌+◌, ◌≤◌, ◌≡◌, Bool, true, false, List, ◌++◌, length}
+use Rattle.std.specs.Prelude.{ℕ, ◌+◌, ◌≤◌, ◌≡◌, Bool, true, false, List, ◌++◌, length, Some}
 use Rattle.frame.specs.Places.{place, range_of}
 use Rattle.frame.specs.Spans.{span_between}
 use Rattle.frame.specs.declared.Frame.{Frame}
-use Rattle.placeholder.specs.declared.MaybeSpan.{MaybeSpan}
-use Rattle.quick.specs.Tellings.{name_of, type_span}
+use Rattle.quick.specs.Tellings.{name_of, type_span, argument_of, Tells}
+use Rattle.quick.specs.declared.PlaceKind.{PlaceKind}
+use Rattle.quick.specs.declared.CountKind.{CountKind}
 use Rattle.quick.specs.declared.TypeTold.{TypeTold}
 use Rattle.quick.specs.declared.PlaceholderTold.{PlaceholderTold}
 use Rattle.passing.specs.After.{place_of}
 use Rattle.words.specs.Laid.{laid}
-use Rattle.words.specs.Layout.{low_of, four, hex_of, head_words, place_tag, place_words, count_words, span_words}
+use Rattle.words.specs.Layout.{low_of, four, hex_of, head_words, place_tag, place_words, count_words, span_words, argument_words}
 
--- WHAT IS TOLD: its tags have a meaning (a precision's 5, a dot with no count behind it, is not the layout's), and it stands within the text
-pub record Sound (t : List ℕ) (x : PlaceholderTold) : Type 0 where
-  pub placed : x.place.tag ≤ 2
-  pub wide : x.spec.width.tag ≤ 4
-  pub precise : x.spec.precision.tag ≤ 5
-  pub reached : x.to ≤ length t
+-- a place's kind as a number, and a count's with its value; a name has its own
+abbrev pub place_number : PlaceKind → ℕ
+place_number PlaceKind.Nothing = 0
+place_number (PlaceKind.Number value) = 1
+place_number PlaceKind.Word = 2
+
+abbrev pub kind_number : CountKind → ℕ
+kind_number CountKind.Nothing = 0
+kind_number (CountKind.Number value) = 1
+kind_number (CountKind.Argument value) = 2
+kind_number CountKind.Star = 3
+kind_number CountKind.Name = 4
+kind_number CountKind.Dot = 0
+
+abbrev pub kind_value : ℕ → CountKind → ℕ
+kind_value n CountKind.Nothing = 0
+kind_value n (CountKind.Number value) = value
+kind_value n (CountKind.Argument value) = value
+kind_value n CountKind.Star = low_of n
+kind_value n CountKind.Name = 0
+kind_value n CountKind.Dot = 0
 
 -- the first eight numbers: the argument's bytes, its place and the place's span
 unfoldable pub told_head : List ℕ → Frame → ℕ → PlaceholderTold → ℕ → List ℕ
@@ -26,7 +42,7 @@ told_head t f brace x n =
 
 -- a count that is a name with its `$`, and starts at a byte of its own
 unfoldable pub name_words : List ℕ → Frame → ℕ → ℕ → ℕ → List ℕ
-name_words t f start from end = count_words (name_of t f from end) (MaybeSpan.Present (span_between t f (place start) (place end)))
+name_words t f start from end = count_words (name_of t f from end) (Some (span_between t f (place start) (place end)))
 
 -- a type
 unfoldable pub type_words : List ℕ → Frame → TypeTold → List ℕ
@@ -41,7 +57,7 @@ pub record Put (told : Type 0) (k n : ℕ) (ws old new : List ℕ) : Type 0 wher
   pub wrote : told → new ≡ laid old k ws
   pub spoilt : Spoilt k n old new
 
--- NUMBERS WRITTEN WHERE SOMETHING IS TOLD, and else none
-pub record PutOrLeft (told : Bool) (k : ℕ) (ws old new : List ℕ) : Type 0 where
-  pub wrote : told ≡ true → new ≡ laid old k ws
-  pub left : told ≡ false → new ≡ old
+-- A PLACEHOLDER that is told, and written from a place on
+pub record ToldAndPut (t : List ℕ) (f : Frame) (brace n k : ℕ) (old new : List ℕ) (x : PlaceholderTold) : Type 0 where
+  pub tells : Tells t (brace + 1) x
+  pub wrote : new ≡ laid old k (argument_words (argument_of t f brace n x))

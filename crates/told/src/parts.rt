@@ -1,36 +1,43 @@
 // The parts of a placeholder that is told, written.
-ghost use Rattle.std.specs.Prelude.{◌≡◌, ◌++◌, ◌+◌, ◌-◌, ◌*◌, ◌≤◌, ◌<◌, eqb, length};
-ghost use Rattle.utf8.specs.Choice.{pick};
+ghost use Rattle.std.specs.Prelude.{◌≡◌, ◌++◌, ◌+◌, ◌-◌, ◌*◌, ◌≤◌, ◌<◌, ℕ, length};
 ghost use Rattle.utf8.specs.Utf8.{peek_at};
 ghost use Rattle.frame.specs.Places.{place as place_at};
 ghost use Rattle.frame.specs.Bounds.{Small};
 ghost use Rattle.placeholder.specs.Specs.{no_spec};
-ghost use Rattle.quick.specs.Tellings.{code_seen, fill_of, count_of, width_of, precision_of, count_span};
+ghost use Rattle.quick.specs.Tellings.{code_seen, fill_of, width_of, count_span};
+ghost use Rattle.quick.specs.declared.CountKind as CountKind;
 ghost use Rattle.words.specs.Laid.{laid};
 ghost use Rattle.words.specs.Layout.{low_of, place_words, fill_words, count_words, spec_words};
 ghost use Rattle.passing.specs.After.{place_of};
-ghost use Rattle.told.specs.Told.{Put, Sound, told_head, name_words, type_words};
+ghost use Rattle.told.specs.Told.{Put, place_number, kind_number, kind_value, told_head, name_words, type_words};
 
 use frame::{Frame, Span, TextPlace};
-use quick::{PartTold, PlaceholderTold, TypeTold};
+use quick::{CountKind, CountPart, PlaceKind, PlacePart, PlaceholderTold, TypeTold};
 use words::{hex_word, low, put_zeros, put4};
 
 // The place of what is told, which starts at `at`.
-fn put_told_place(out: &mut [u32], k: usize, place: PartTold, at: usize, next: usize, span: Span)
+fn put_told_place(out: &mut [u32], k: usize, place: PlacePart, at: usize, next: usize, span: Span)
     requires { k + 4 ≤ length out.old }
     ensures { out.new ≡ laid out.old k (place_words (place_of at place next) span) }
 {
     let start = low(span.start.0);
     let end = low(span.end.0);
-    if place.tag == 0 {
-        put4(out, k, low(next), 0, start, end);
-        return;
+    match place.kind {
+        PlaceKind::Nothing => put4(out, k, low(next), 0, start, end),
+        PlaceKind::Number(value) => put4(out, k, value as u32, 0, start, end),
+        PlaceKind::Word => put4(out, k, low(at), low(place.end), start, end),
     }
-    if place.tag == 1 {
-        put4(out, k, place.value as u32, 0, start, end);
-        return;
+}
+
+// A place's kind as a number.
+fn place_number(kind: PlaceKind) -> u32
+    ensures { result ≡ place_number kind }
+{
+    match kind {
+        PlaceKind::Nothing => 0,
+        PlaceKind::Number(_) => 1,
+        PlaceKind::Word => 2,
     }
-    put4(out, k, low(at), low(place.end), start, end);
 }
 
 // The first eight numbers of what is told: its range, its place and the place's span.
@@ -43,12 +50,19 @@ pub fn put_told_head(
     told: PlaceholderTold,
     next: usize,
 )
-    requires { Small text.now frame × Sound text.now told × (brace < 65535) × (k + 8 ≤ length out.old) }
+    requires { Small text.now frame × (told.to ≤ length text.now) × (brace < 65535) × (k + 8 ≤ length out.old) }
     ensures { out.new ≡ laid out.old k (told_head text.now frame brace told next) }
 {
     let place = told.place;
     let span = frame::span_between(text, frame, TextPlace(brace + 1), TextPlace(told.to));
-    put4(&mut *out, k, 1, low(brace), low(told.on), place.tag as u32);
+    put4(
+        &mut *out,
+        k,
+        1,
+        low(brace),
+        low(told.on),
+        place_number(place.kind),
+    );
     put_told_place(out, k + 4, place, brace + 1, next, span);
 }
 
@@ -62,7 +76,7 @@ pub fn put_bare(
     told: PlaceholderTold,
     next: usize,
 )
-    requires { Small text.now frame × Sound text.now told × (brace < 65535) × (40 * n + 40 ≤ length out.old) }
+    requires { Small text.now frame × (told.to ≤ length text.now) × (brace < 65535) × (40 * n + 40 ≤ length out.old) }
     ensures { out.new ≡ laid out.old (40 * n) (told_head text.now frame brace told next ++ spec_words (no_spec (place_at told.to) next).spec) }
 {
     let k = 40 * n;
@@ -98,19 +112,36 @@ pub fn code_at(text: &[u8], at: usize) -> u32
     ensures { result ≡ code_seen (peek_at text.now at) }
 {
     match utf8::peek(text, at) {
-        utf8::Seen::Char { code, width: _ } => code,
-        utf8::Seen::End => 0,
+        Some(seen) => seen.code,
+        None => 0,
     }
 }
 
-// A count's number: the next argument's for a star.
-fn count_value(part: PartTold, next: usize) -> u32
-    ensures { result ≡ pick (eqb part.tag 3) (low_of next) part.value }
+// A count's kind as a number, and its value: the next argument's number for a star.
+fn kind_number(kind: CountKind) -> u32
+    ensures { result ≡ kind_number kind }
 {
-    if part.tag == 3 {
-        return low(next);
+    match kind {
+        CountKind::Nothing => 0,
+        CountKind::Number(_) => 1,
+        CountKind::Argument(_) => 2,
+        CountKind::Star => 3,
+        CountKind::Name => 4,
+        CountKind::Dot => 0,
     }
-    part.value as u32
+}
+
+fn kind_value(kind: CountKind, next: usize) -> u32
+    ensures { result ≡ kind_value next kind }
+{
+    match kind {
+        CountKind::Nothing => 0,
+        CountKind::Number(value) => value as u32,
+        CountKind::Argument(value) => value as u32,
+        CountKind::Star => low(next),
+        CountKind::Name => 0,
+        CountKind::Dot => 0,
+    }
 }
 
 // One less; 0 of 0.
@@ -147,73 +178,51 @@ fn put_told_name(
     );
 }
 
-// The width of a spec.
-pub fn put_told_width(
+// A width or a precision, which may be a name from `from` on; its span starts at `start`: with a precision's dot.
+pub fn put_told_named(
     out: &mut [u32],
     k: usize,
     text: &[u8],
     frame: Frame,
+    start: usize,
     from: usize,
-    part: PartTold,
+    part: CountPart,
     next: usize,
 )
     requires { Small text.now frame × (k + 8 ≤ length out.old) }
-    ensures { Put (part.tag ≤ 4) k 8 (count_words (width_of text.now frame next from part) (count_span text.now frame from part)) out.old out.new }
+    ensures { out.new ≡ laid out.old k (count_words (width_of text.now frame next from part) (count_span text.now frame start part)) }
 {
-    if part.tag == 4 {
-        put_told_name(out, k, text, frame, from, from, part.end);
-        return;
+    match part.kind {
+        CountKind::Name => put_told_name(out, k, text, frame, start, from, part.end),
+        _ => put_told_count(out, k, text, frame, start, part, next),
     }
-    put_told_count(out, k, text, frame, from, part, next);
 }
 
-// The precision of a spec, whose dot stands at `dot`: a dot with no count behind it has a span and no number.
-pub fn put_told_precision(
-    out: &mut [u32],
-    k: usize,
-    text: &[u8],
-    frame: Frame,
-    dot: usize,
-    part: PartTold,
-    next: usize,
-)
-    requires { Small text.now frame × (dot ≤ 65535) × (k + 8 ≤ length out.old) }
-    ensures { Put (part.tag ≤ 5) k 8 (count_words (precision_of text.now frame next dot part) (count_span text.now frame dot part)) out.old out.new }
-{
-    if part.tag == 4 {
-        put_told_name(out, k, text, frame, dot, dot + 1, part.end);
-        return;
-    }
-    if part.tag != 5 {
-        put_told_count(out, k, text, frame, dot, part, next);
-        return;
-    }
-    let span = frame::span_between(text, frame, TextPlace(dot), TextPlace(part.end));
-    put4(&mut *out, k, 0, 0, 0, 0);
-    put4(out, k + 4, 0, 1, low(span.start.0), low(span.end.0));
-}
-
-// A count that starts at `from`.
+// One that is no name. A dot with no count behind it has a span and no number.
 pub fn put_told_count(
     out: &mut [u32],
     k: usize,
     text: &[u8],
     frame: Frame,
-    from: usize,
-    part: PartTold,
+    start: usize,
+    part: CountPart,
     next: usize,
 )
     requires { Small text.now frame × (k + 8 ≤ length out.old) }
-    ensures { Put (part.tag ≤ 3) k 8 (count_words (count_of next part) (count_span text.now frame from part)) out.old out.new }
+    ensures { (from : ℕ) → Put (part.kind ≡ CountKind.Name → ⊥) k 8 (count_words (width_of text.now frame next from part) (count_span text.now frame start part)) out.old out.new }
 {
-    if part.tag == 0 {
-        put4(&mut *out, k, 0, 0, 0, 0);
-        put4(out, k + 4, 0, 0, 0, 0);
-        return;
+    match part.kind {
+        CountKind::Nothing => {
+            put4(&mut *out, k, 0, 0, 0, 0);
+            put4(out, k + 4, 0, 0, 0, 0);
+        }
+        _ => {
+            let span = frame::span_between(text, frame, TextPlace(start), TextPlace(part.end));
+            let number = kind_number(part.kind);
+            put4(&mut *out, k, number, kind_value(part.kind, next), 0, 0);
+            put4(out, k + 4, 0, 1, low(span.start.0), low(span.end.0));
+        }
     }
-    let span = frame::span_between(text, frame, TextPlace(from), TextPlace(part.end));
-    put4(&mut *out, k, part.tag as u32, count_value(part, next), 0, 0);
-    put4(out, k + 4, 0, 1, low(span.start.0), low(span.end.0));
 }
 
 // A type. A word's span is that of its text.

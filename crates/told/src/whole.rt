@@ -1,14 +1,12 @@
 // A placeholder that is told, written whatever is wrong in it.
-ghost use Rattle.std.specs.Prelude.{◌≡◌, ◌+◌, ◌*◌, ◌≤◌, ◌<◌, length};
+ghost use Rattle.std.specs.Prelude.{◌≡◌, ◌+◌, ◌*◌, ◌≤◌, ◌<◌, length, MatchOption};
 ghost use Rattle.frame.specs.Bounds.{Small};
-ghost use Rattle.quick.specs.Tellings.{spec_of, argument_of, Tells};
+ghost use Rattle.quick.specs.Tellings.{spec_of};
 ghost use Rattle.words.specs.Laid.{laid};
-ghost use Rattle.words.specs.Layout.{spec_words, argument_words};
-ghost use Rattle.told.specs.Told.{PutOrLeft};
+ghost use Rattle.words.specs.Layout.{spec_words};
+ghost use Rattle.told.specs.Told.{ToldAndPut};
 
-use crate::parts::{
-    put_bare, put_told_fill, put_told_head, put_told_precision, put_told_type, put_told_width,
-};
+use crate::parts::{put_bare, put_told_fill, put_told_head, put_told_named, put_told_type};
 use frame::Frame;
 use passing::after::after_star;
 use quick::{PlaceholderTold, SpecTold};
@@ -24,7 +22,7 @@ fn put_spec(
     next: usize,
     spec: SpecTold,
 )
-    requires { Small text.now frame × (k + 32 ≤ length out.old) × (spec.width.tag ≤ 4) × (spec.precision.tag ≤ 5) × (spec.width.end < 65536) }
+    requires { Small text.now frame × (k + 32 ≤ length out.old) × (spec.width.end < 65536) }
     ensures { out.new ≡ laid out.old k (spec_words (spec_of text.now frame at next spec)) }
 {
     let align = spec.align;
@@ -39,13 +37,23 @@ fn put_spec(
         bit(spec.alternate),
         bit(spec.zero),
     );
-    put_told_width(&mut *out, k + 8, text, frame, spec.from, width, next);
-    put_told_precision(
+    put_told_named(
+        &mut *out,
+        k + 8,
+        text,
+        frame,
+        spec.from,
+        spec.from,
+        width,
+        next,
+    );
+    put_told_named(
         &mut *out,
         k + 16,
         text,
         frame,
         width.end,
+        width.end + 1,
         spec.precision,
         next,
     );
@@ -60,22 +68,19 @@ pub fn write_placeholder(
     frame: Frame,
     brace: usize,
     next: usize,
-) -> PlaceholderTold
+) -> Option<PlaceholderTold>
     requires { Small text.now frame × (brace < length text.now) × (next < 0xFFFFE) × (40 * n + 40 ≤ length out.old) }
-    ensures { Tells text.now (brace + 1) result × PutOrLeft result.ok (40 * n) (argument_words (argument_of text.now frame brace next result)) out.old out.new }
+    ensures { MatchOption result (out.new ≡ out.old) (ToldAndPut text.now frame brace next (40 * n) out.old out.new) }
 {
-    let told = quick::whole::tell(text, brace + 1);
-    if !told.ok {
-        return told;
-    }
+    let told = quick::whole::tell(text, brace + 1)?;
     let spec = told.spec;
     let after = after_star(spec.precision, next);
     if !told.colon {
         put_bare(out, n, text, frame, brace, told, after);
-        return told;
+        return Some(told);
     }
     let k = 40 * n;
     put_spec(&mut *out, k + 8, text, frame, told.to + 1, next, spec);
     put_told_head(out, k, text, frame, brace, told, after);
-    told
+    Some(told)
 }

@@ -18,7 +18,7 @@ use Rattle.seasons.proofs.FewLaws.{own_few, sums_few}
 use Rattle.seasons.specs.Totals.{own, plus, zeros, sums}
 use Rattle.seasons.specs.declared.Season.{Season}
 use Rattle.totals.specs.Adding.{Room}
-use Rattle.totals.specs.Taking.{Stands, Ends, AllAdded}
+use Rattle.totals.specs.Taking.{Stands, NoneStands, AllAdded}
 
 -- two bytes and their number
 pub two_said : (low high : ℕ) → low < 256 → high < 256 → (low + 256 * high ≤ 65535) × (two_bytes (low + 256 * high) ≡ low ∷ high ∷ [])
@@ -33,32 +33,27 @@ take_two bytes at h =
     rw (drop-cons bytes at 0 (omega (arith, h)), drop-cons bytes (suc at) 0 (omega (arith, h)), add-one at)
 
 -- too short for a length
-pub ends_short : (bytes : List ℕ) (at : ℕ) → length bytes - at < 2 → Ends bytes at 0
-ends_short bytes at h =
-    inl (refl, λ k ts r. absurd (omega (arith, h, length-drop at bytes, (rest_first k (drop at bytes) ts r).some)))
+pub ends_short : (bytes : List ℕ) (at : ℕ) → length bytes - at < 2 → NoneStands bytes at
+ends_short bytes at h k ts r = absurd (omega (arith, h, length-drop at bytes, (rest_first k (drop at bytes) ts r).some))
 
 -- too short for the text
 pub ends_long : (bytes : List ℕ) (at n : ℕ) → at ≤ length bytes → 2 ≤ length bytes - at → length bytes - at - 2 < n →
-    two_bytes n ≡ get_or bytes at 0 ∷ get_or bytes (at + 1) 0 ∷ [] → Ends bytes at 0
-ends_long bytes at n inside some long e =
-    inl (
-      refl,
-      λ k ts r.
-          let head = rest_first k (drop at bytes) ts r in
-          let same : head.size ≡ n = two_one head.size n (head.length_is ∙ take_two bytes at (omega (arith, inside, some)) ∙ sym e) in
-          absurd (omega (arith, long, same, head.enough, length-drop 2 (drop at bytes), length-drop at bytes)),
-    )
+    two_bytes n ≡ get_or bytes at 0 ∷ get_or bytes (at + 1) 0 ∷ [] → NoneStands bytes at
+ends_long bytes at n inside some long e k ts r =
+    let head = rest_first k (drop at bytes) ts r in
+    let same : head.size ≡ n = two_one head.size n (head.length_is ∙ take_two bytes at (omega (arith, inside, some)) ∙ sym e) in
+    absurd (omega (arith, long, same, head.enough, length-drop 2 (drop at bytes), length-drop at bytes))
 
 pub ends_here : (bytes : List ℕ) (at n : ℕ) → at ≤ length bytes → 2 ≤ length bytes - at → n ≤ length bytes - at - 2 → n ≤ 65535 →
-    two_bytes n ≡ get_or bytes at 0 ∷ get_or bytes (at + 1) 0 ∷ [] → Ends bytes at (at + 2 + n)
+    two_bytes n ≡ get_or bytes at 0 ∷ get_or bytes (at + 1) 0 ∷ [] → Stands bytes at (at + 2 + n)
 ends_here bytes at n inside some enough few e =
-    inr (record {
+    record {
       size = n;
       is_end = refl;
       inside = omega (arith, inside, some, enough);
       few = few;
       said = e ∙ sym (take_two bytes at (omega (arith, inside, some)));
-    })
+    }
 
 -- A LIST BEING TAKEN APART, with so many texts left from a place on: those passed, and their totals; whatever the rest is, the whole is
 -- both, and whatever the whole is, it begins with those passed
@@ -114,31 +109,16 @@ module _ {bytes : List ℕ} {count : ℕ} {row : List ℕ} {at left : ℕ} (take
                 eqb-false at (length bytes) e (omega (arith, z, length-drop at bytes, taken.inside));
           }
 
-  module _ (more : 0 < left) {end : ℕ} (ends : Ends bytes at end) where
-    one_more_lem : left ≡ suc (left - 1)
-    one_more_lem = omega (arith, more)
-
-    -- no text stands there
-    pub taken_none : end ≡ 0 → AllAdded bytes count row false
-    taken_none e = go ends
-      where
-        go : Ends bytes at end → AllAdded bytes count row false
-        go (inl none) =
-            record {
-              done = λ q. absurd (true≢false (sym q));
-              none = λ _ ts r.
-                  let o = taken.only ts r in
-                  none.1 (left - 1) o.0 (subst (λ (n : ℕ). Rest n (drop at bytes) o.0) one_more_lem o.1.1);
-            }
-        go (inr s) = absurd (omega (arith, e, s.is_end))
-
-    -- one does
-    pub taken_stands : (end ≡ 0 → ⊥) → Stands bytes at end
-    taken_stands h = go ends
-      where
-        go : Ends bytes at end → Stands bytes at end
-        go (inl none) = absurd (h none.0)
-        go (inr s) = s
+  -- no text stands there
+  pub taken_none : 0 < left → NoneStands bytes at → AllAdded bytes count row false
+  taken_none more none =
+      let one : left ≡ suc (left - 1) = omega (arith, more) in
+      record {
+        done = λ q. absurd (true≢false (sym q));
+        none = λ _ ts r.
+            let o = taken.only ts r in
+            none (left - 1) o.0 (subst (λ (n : ℕ). Rest n (drop at bytes) o.0) one o.1.1);
+      }
 
   module _ (more : 0 < left) {end : ℕ} (s : Stands bytes at end) where
     -- its bytes

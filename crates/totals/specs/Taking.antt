@@ -1,5 +1,5 @@
 -- What taking a list apart comes to, a text at a time. No contract of a call cites this. Rests on seasons' laws of lists.
-use Rattle.std.specs.Prelude.{◌≡◌, ◌⊎◌, Bool, true, false, List, ℕ, suc, ◌+◌, ◌≤◌, length, take, drop}
+use Rattle.std.specs.Prelude.{◌≡◌, Bool, true, false, List, ℕ, suc, ◌+◌, ◌≤◌, length, take, drop, Option, None, Some}
 use Rattle.seasons.specs.Season.{two_bytes}
 use Rattle.seasons.specs.Rests.{Rest}
 use Rattle.seasons.specs.Totals.{sums}
@@ -16,8 +16,9 @@ pub record Stands (bytes : List ℕ) (at end : ℕ) : Type 0 where
 abbrev pub NoneStands : List ℕ → ℕ → Type 0
 NoneStands bytes at = (k : ℕ) (ts : List (List ℕ)) → ¬ Rest (suc k) (drop at bytes) ts
 
-abbrev pub Ends : List ℕ → ℕ → ℕ → Type 0
-Ends bytes at end = ((end ≡ 0) × NoneStands bytes at) ⊎ Stands bytes at end
+abbrev pub Ends : List ℕ → ℕ → Option ℕ → Type 0
+Ends bytes at None = NoneStands bytes at
+Ends bytes at (Some end) = Stands bytes at end
 
 -- so many texts stand behind the first two bytes and nothing follows, or not
 pub record AllAdded (bytes : List ℕ) (count : ℕ) (row : List ℕ) (r : Bool) : Type 0 where

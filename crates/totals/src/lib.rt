@@ -4,7 +4,6 @@
 mod clear; // clear.rt: steps in which nothing is wrong, counted without their records
 
 ghost use Rattle.std.specs.Prelude.{◌≡◌, [], ◌∷◌, ◌≤◌, length};
-ghost use Rattle.utf8.specs.Choice.{both};
 ghost use Rattle.frame.specs.Bounds.{Small};
 ghost use Rattle.reading.specs.Lists.{gather, pieces_of};
 ghost use Rattle.reading.specs.Faults.{faults_of};
@@ -16,9 +15,9 @@ ghost use Rattle.totals.specs.Adding.{Room, fault_lines, step_lines, is_none};
 ghost use Rattle.totals.specs.Taking.{Ends, AllAdded};
 
 use crate::clear::add_clear;
-use frame::{Frame, Mode, Style};
+use frame::{Frame, Mode};
 use placeholder::Place;
-use reading::{Onward, Step};
+use reading::Step;
 use scan::{Count, Numeral};
 use seasons::Season;
 
@@ -103,15 +102,16 @@ fn walk_faults(text: &[u8], frame: Frame, step: Step, totals: &mut [usize]) -> b
     requires { Small text.now frame × Room 13 totals.old }
     ensures { (totals.new ≡ added 0 totals.old (gather fault_lines (faults_of step))) × (result ≡ is_none (faults_of step)) }
 {
-    let first = faults::first_wrong(step, 0);
-    let mut k = first;
-    while k < 13 {
+    let mut sound = true;
+    for k in 0..13 {
         let fault = faults::fault_at(step, k);
-        let record = faults::record_of(text, frame, fault, 0);
-        count_in(record.kind as usize + 7, &mut *totals);
-        k = faults::first_wrong(step, k + 1);
+        if !faults::is_clean(fault) {
+            let record = faults::record_of(text, frame, fault, 0);
+            count_in(record.kind as usize + 7, &mut *totals);
+            sound = false;
+        }
     }
-    first == 13
+    sound
 }
 
 // Counts a step: its piece, and what it found wrong; says whether there is nothing.
@@ -123,13 +123,6 @@ fn add_step(text: &[u8], frame: Frame, step: Step, totals: &mut [usize]) -> bool
     add_faults(text, frame, step, totals)
 }
 
-// Whether both hold.
-fn both(a: bool, b: bool) -> bool
-    ensures { result ≡ both a b }
-{
-    if a { b } else { false }
-}
-
 // Counts the steps of a text that is not refused, one after the other; says whether none found anything wrong. One that is clear needs no record.
 fn add_steps(text: &[u8], frame: Frame, totals: &mut [usize]) -> bool
     requires { Small text.now frame × Room 0xF0001 totals.old }
@@ -137,25 +130,17 @@ fn add_steps(text: &[u8], frame: Frame, totals: &mut [usize]) -> bool
 {
     let cursor = turns::first_cursor(text);
     let mut state = cursor.state;
-    let mut left = cursor.left;
     let mut sound = true;
-    while 0 < left {
-        let passed = add_clear(text, frame, state, &mut *totals);
-        if passed.on {
+    for _ in 0..cursor.left {
+        if let Some(passed) = add_clear(text, frame, state, &mut *totals) {
             state = passed.state;
-            left -= 1;
         } else {
             let step = steps::step_at(text, frame, Mode::Format, state);
-            sound = both(sound, add_step(text, frame, step, &mut *totals));
-            match steps::go_on(state, step) {
-                Onward::Over => {
-                    return sound;
-                }
-                Onward::To(after) => {
-                    state = after;
-                    left -= 1;
-                }
-            }
+            sound = add_step(text, frame, step, &mut *totals) && sound;
+            let Some(after) = steps::go_on(state, step) else {
+                return sound;
+            };
+            state = after;
         }
     }
     sound
@@ -171,7 +156,7 @@ pub fn add_text(text: &[u8], totals: &mut [usize])
         count_in(1, totals);
         return;
     }
-    let frame = frame::frame_of(text, Style::Plain, false, b"", false);
+    let frame = frame::frame_of(text, None, false, b"", false);
     if add_steps(text, frame, &mut *totals) {
         count_in(2, totals);
     }
@@ -184,19 +169,19 @@ pub fn two(low: u8, high: u8) -> usize
     low as usize + 256 * (high as usize)
 }
 
-// Where the text ends whose length stands at a place; 0 where the bytes break off before that.
-fn end_at(bytes: &[u8], at: usize) -> usize
+// Where the text ends whose length stands at a place; none where the bytes break off before that.
+fn end_at(bytes: &[u8], at: usize) -> Option<usize>
     requires { at ≤ length bytes.now }
     ensures { Ends bytes.now at result }
 {
     if bytes.len() - at < 2 {
-        return 0;
+        return None;
     }
     let size = two(bytes[at], bytes[at + 1]);
     if bytes.len() - at - 2 < size {
-        return 0;
+        return None;
     }
-    at + 2 + size
+    Some(at + 2 + size)
 }
 
 // Adds the totals of so many texts, which stand behind the first two bytes; says whether they are there and nothing follows.
@@ -205,15 +190,12 @@ fn add_all(bytes: &[u8], count: usize, totals: &mut [usize]) -> bool
     ensures { AllAdded bytes.now count totals.new result }
 {
     let mut at = 2;
-    let mut left = count;
-    while 0 < left {
-        let end = end_at(bytes, at);
-        if end == 0 {
+    for _ in 0..count {
+        let Some(past) = end_at(bytes, at) else {
             return false;
-        }
-        add_text(&bytes[at + 2..end], &mut *totals);
-        at = end;
-        left -= 1;
+        };
+        add_text(&bytes[at + 2..past], &mut *totals);
+        at = past;
     }
     at == bytes.len()
 }

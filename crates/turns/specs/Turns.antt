@@ -1,7 +1,6 @@
 -- A run over the steps of a text, a piece or a fault at a time: what is left to come at a cursor.
-use Rattle.std.specs.Prelude.{ℕ, ◌+◌, ◌≤◌, ◌≡◌, Bool, List, [], ◌∷◌, ◌++◌, length, drop}
+use Rattle.std.specs.Prelude.{ℕ, ◌+◌, ◌≤◌, ◌≡◌, Bool, List, [], ◌∷◌, ◌++◌, length, drop, Option, None, Some, IfSome}
 use Rattle.utf8.specs.Choice.{pick}
-use Rattle.frame.specs.Places.{place, range_of}
 use Rattle.frame.specs.declared.Frame.{Frame}
 use Rattle.frame.specs.declared.Mode.{Mode}
 use Rattle.reading.specs.Steps.{start, steps_from}
@@ -29,27 +28,26 @@ abbrev pub steps_at : List ℕ → Frame → Mode → Cursor → List Step
 steps_at t f m c = steps_from c.left t f m c.state
 
 -- PIECES
-abbrev pub no_piece : Piece
-no_piece = Piece.Literal (range_of (place 0) (place 0))
-
-abbrev pub piece_of : Step → Piece
-piece_of Step.End = no_piece
-piece_of (Step.Stop p) = no_piece
-piece_of (Step.Literal r) = Piece.Literal r
-piece_of (Step.Placeholder p) = Piece.Placeholder p.argument
+-- each step but the last has one
+abbrev pub piece_of : Step → Option Piece
+piece_of Step.End = None
+piece_of (Step.Stop p) = None
+piece_of (Step.Literal r) = Some (Piece.Literal r)
+piece_of (Step.Placeholder p) = Some (Piece.Placeholder p.argument)
 
 -- the pieces from a cursor on
 unfoldable pub pieces_at : List ℕ → Frame → Mode → Cursor → List Piece
 pieces_at t f m c = gather pieces_of (steps_at t f m c)
 
 -- the turn's piece and those after it
-abbrev pub pieces_turn : List ℕ → Frame → Mode → PieceTurn → List Piece
-pieces_turn t f m r = pick r.more (r.piece ∷ pieces_at t f m r.cursor) []
+abbrev pub pieces_turn : List ℕ → Frame → Mode → Option PieceTurn → List Piece
+pieces_turn t f m None = []
+pieces_turn t f m (Some r) = r.piece ∷ pieces_at t f m r.cursor
 
 -- what a turn says: its piece and those after it are those from the cursor on
-pub record PieceNext (t : List ℕ) (f : Frame) (m : Mode) (c : Cursor) (r : PieceTurn) : Type 0 where
+pub record PieceNext (t : List ℕ) (f : Frame) (m : Mode) (c : Cursor) (r : Option PieceTurn) : Type 0 where
   pub says : pieces_turn t f m r ≡ pieces_at t f m c
-  pub fresh : Fresh r.cursor
+  pub fresh : IfSome r (λ x. Fresh x.cursor)
 
 -- ERROR RECORDS
 -- the findings of the first of some steps from a slot on, where so many pieces were listed, and of the steps after it
@@ -74,14 +72,15 @@ notes t f [] = []
 notes t f (x ∷ xs) = note (is_front x.fault) (record_of t f x.piece x.fault) ∷ notes t f xs
 
 -- the turn's record and those after it
-abbrev pub notes_turn : List ℕ → Frame → Mode → FaultTurn → List Note
-notes_turn t f m r = pick r.more (note r.front r.record ∷ notes t f (faults_at t f m r.cursor r.slot)) []
+abbrev pub notes_turn : List ℕ → Frame → Mode → Option FaultTurn → List Note
+notes_turn t f m None = []
+notes_turn t f m (Some r) = note r.front r.record ∷ notes t f (faults_at t f m r.cursor r.slot)
 
 -- what a turn says: its record and those after it are those from the slot on
-pub record FaultNext (t : List ℕ) (f : Frame) (m : Mode) (c : Cursor) (slot : ℕ) (r : FaultTurn) : Type 0 where
+pub record FaultNext (t : List ℕ) (f : Frame) (m : Mode) (c : Cursor) (slot : ℕ) (r : Option FaultTurn) : Type 0 where
   pub says : notes_turn t f m r ≡ notes t f (faults_at t f m c slot)
-  pub fresh : Fresh r.cursor
-  pub slots : r.slot ≤ 13
+  pub fresh : IfSome r (λ x. Fresh x.cursor)
+  pub slots : IfSome r (λ x. x.slot ≤ 13)
 
 -- the list that records leave, each added at the back or put at the front
 unfoldable pub posted : List ErrorRecord → List Note → List ErrorRecord

@@ -1,6 +1,6 @@
 -- Worked cases, each by computing, for any buffer that fits: a letter cut in two, a part of no bytes, a byte that is none, and a part that passes the
 -- limit, with the one after it and the finish. Rests on Parts and Finishes.
-use Rattle.std.specs.Prelude.{ℕ, ◌≡◌, refl, true, false, length, List, [], ◌∷◌, ◌++◌}
+use Rattle.std.specs.Prelude.{ℕ, ◌≡◌, refl, true, false, length, List, [], ◌∷◌, ◌++◌, None}
 use Rattle.utf8.specs.Choice.{pick, within}
 use Rattle.utf8.specs.Utf8.{low, high, sequence_of, sequence_at, valid}
 use Rattle.utf8.specs.Utf8Laws.{valid_end}
@@ -8,7 +8,6 @@ use Rattle.pen.specs.Pens.{over}
 use Rattle.uploads.specs.declared.Upload.{Upload}
 use Rattle.reading.specs.Answers.{is_long}
 use Rattle.reading.specs.Cases.{ask, rooms}
-use Rattle.reading.specs.declared.Hashes.{Hashes}
 use Rattle.laws.specs.Deciding.{refused_as, early_number, late_answer}
 use Rattle.uploads.specs.Finishes.{finish_answer}
 use Rattle.uploads.specs.Parts.{nothing, is_unfit, is_too_much, grown, part_state, part_buffer, Held, held}
@@ -75,9 +74,9 @@ module _ (rest : List ℕ) where
 
   -- the finish says so, and 1 and 2 before it
   pub finished : is_unfit (record { count = 0; valid = 0; over = true }) rest ≡ false →
-      (finish_answer (record { count = 0; valid = 0; over = true }) rest [] (ask 0 Hashes.Plain false false) (rooms 0 0 0 0) ≡ refused_as 3 0) ×
-      (finish_answer (record { count = 0; valid = 0; over = true }) rest [] (ask 3 Hashes.Plain true false) (rooms 0 0 0 0) ≡ refused_as 1 0) ×
-      (finish_answer (record { count = 0; valid = 0; over = true }) rest [] (ask 0 Hashes.Plain true false) (rooms 0 0 0 0) ≡ refused_as 2 0)
+      (finish_answer (record { count = 0; valid = 0; over = true }) rest [] (ask 0 None false false) (rooms 0 0 0 0) ≡ refused_as 3 0) ×
+      (finish_answer (record { count = 0; valid = 0; over = true }) rest [] (ask 3 None true false) (rooms 0 0 0 0) ≡ refused_as 1 0) ×
+      (finish_answer (record { count = 0; valid = 0; over = true }) rest [] (ask 0 None true false) (rooms 0 0 0 0) ≡ refused_as 2 0)
   unfolding finish_answer early_number late_answer is_long pick
   finished f = (rw f, rw f, rw f)
 

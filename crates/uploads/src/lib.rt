@@ -11,7 +11,7 @@ pub struct Upload {
     pub over: bool,
 }
 
-// What a part leaves: 16 or 0, and what is kept.
+// What a part leaves: 16 or 0, the rules' number, of which the theorems speak (`Part`), and what is kept.
 #[derive(Clone, Copy)]
 pub struct Taken {
     pub number: u8,

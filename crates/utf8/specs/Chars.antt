@@ -1,10 +1,9 @@
 -- A text as a list of characters, for any bytes, those between two places, and a run of characters that pass a test. Rests on Choice
 -- and Utf8.
-use Rattle.std.specs.Prelude.{ℕ, zero, suc, pred, ◌+◌, Bool, ◌≡◌, List, [], ◌∷◌, ltb, drop, length}
+use Rattle.std.specs.Prelude.{ℕ, zero, suc, pred, ◌+◌, Bool, ◌≡◌, List, [], ◌∷◌, ltb, drop, length, Option, Some, None}
 use Rattle.utf8.specs.Choice.{pick}
 use Rattle.utf8.specs.Utf8.{decode, valid_prefix}
-use Rattle.utf8.specs.declared.Seen.{Seen}
-use Rattle.utf8.specs.declared.Seen.TheVariants.{Char, End}
+use Rattle.utf8.specs.declared.Char.{Char}
 
 -- a character: its code, its byte place and its width in bytes
 pub record Ch : Type 0 where
@@ -17,9 +16,9 @@ abbrev pub ch : ℕ → ℕ → ℕ → Ch
 ch c p w = record { code = c; at = p; width = w }
 
 -- the character seen at place p, and after it what `more` says of the bytes after its first, the next w - 1 of which are its own
-abbrev pub leads : ℕ → (ℕ → List Ch) → Seen → List Ch
-leads p more End = []
-leads p more (Char c w) = ch c p w ∷ more (pred w)
+abbrev pub leads : ℕ → (ℕ → List Ch) → Option Char → List Ch
+leads p more None = []
+leads p more (Some seen) = ch seen.code p seen.width ∷ more (pred seen.width)
 
 -- the characters of a list of bytes that starts at place p, of which the first k bytes belong to the character before
 unfoldable pub chars_at : ℕ → ℕ → List ℕ → List Ch

@@ -1,23 +1,22 @@
 -- Laws of counting characters between two places: a character is one, a block of ASCII as many as its bytes, and in a text that is UTF-8
 -- those that the check passes are all. Rests on Chars, CharLaws, Utf8Laws and BlockLaws.
-use Rattle.std.specs.Prelude.{ℕ, suc, ◌+◌, ◌-◌, ◌≤◌, ◌<◌, ◌≡◌, refl, List, [], ◌∷◌, ◌⊎◌, length, get_or, drop}
+use Rattle.std.specs.Prelude.{ℕ, suc, ◌+◌, ◌-◌, ◌≤◌, ◌<◌, ◌≡◌, refl, List, [], ◌∷◌, ◌⊎◌, length, get_or, drop, Some}
 use Rattle.std.proofs.Common.{sym, ◌∙◌, ap, inl, inr, arith, leb-false, eq-eqb, ne_eqb, lt-ltb}
 use Rattle.utf8.specs.Choice.{pick}
-use Rattle.utf8.specs.Utf8.{sequence_at, char_of, peek_at, valid_prefix}
+use Rattle.utf8.specs.Utf8.{sequence_at, char_of, peek_at, valid_prefix, char}
 use Rattle.utf8.specs.DecodeLaws.{decode_sequence}
 use Rattle.utf8.specs.Chars.{Ch, chars_from, before, chars_of, CheckedAs}
 use Rattle.utf8.specs.CharLaws.{peeked, first, before_more, before_past, ascii_char, places_on}
 use Rattle.utf8.specs.Utf8Laws.{valid_end, valid_room, valid_past, valid_all}
 use Rattle.utf8.specs.Blocks.{how_many, is_high}
 use Rattle.utf8.specs.BlockLaws.{how_many_none, valid_block}
-use Rattle.utf8.specs.declared.Seen.TheVariants.{Char}
 
 -- a character of w bytes at place i: it is one of those before any byte after i, and the others stand from past it on
 abbrev pub Passed : List ℕ → ℕ → ℕ → Type 0
 Passed t i w = (e : ℕ) → i < e → length (chars_of t i e) ≡ suc (length (chars_of t (i + w) e))
 
 -- a character that was seen is passed
-passed_seen : (t : List ℕ) (i : ℕ) {c w : ℕ} → peek_at t i ≡ Char c w → Passed t i w
+passed_seen : (t : List ℕ) (i : ℕ) {c w : ℕ} → peek_at t i ≡ Some (char c w) → Passed t i w
 passed_seen t i p e l = ap length (before_more t e i l p)
 
 -- a well-formed sequence is

@@ -1,14 +1,29 @@
 -- Laws of the decoding: the bytes that it looks at, and a sequence's width. Rests on Utf8.
-use Rattle.std.specs.Prelude.{ℕ, zero, suc, ◌+◌, ◌≤◌, ◌<◌, List, [], ◌∷◌, ◌≡◌, refl, Bool, true, false, eqb, length, get_or, drop}
+use Rattle.std.specs.Prelude.{ℕ, zero, suc, ◌+◌, ◌≤◌, ◌<◌, List, [], ◌∷◌, ◌≡◌, refl, Bool, true, false, eqb, length, get_or, drop, Option, Some, None}
 use Rattle.std.proofs.Common.{suc-le-suc, le_trans, arith, sym, ◌∙◌, ap, subst, lit≤, length-drop, drop-cons, get_or-drop, lt-ltb, ltb-false, eqb-true}
 use Rattle.std.proofs.Math.Numerals.{unary_clauses}
 use Rattle.std.proofs.lemmas.Bool.{eqb-false}
 use Rattle.utf8.specs.Choice.{pick, within}
 use Rattle.utf8.specs.ChoiceLaws.{pick_elim, within_low}
-use Rattle.utf8.specs.Utf8.{low, high, seq, code2, code3, code4, sequence_of, sequence_at, char_of, decode}
+use Rattle.utf8.specs.Utf8.{low, high, seq, code2, code3, code4, sequence_of, sequence_at, char_of, decode, char}
 use Rattle.utf8.specs.declared.Sequence.{Sequence}
-use Rattle.utf8.specs.declared.Seen.{Seen}
-use Rattle.utf8.specs.declared.Seen.TheVariants.{Char}
+use Rattle.utf8.specs.declared.Char.{Char}
+
+-- two characters that are the same have one code and one width
+abbrev code_in : Option Char → ℕ
+code_in None = 0
+code_in (Some x) = x.code
+
+abbrev width_in : Option Char → ℕ
+width_in None = 0
+width_in (Some x) = x.width
+
+module _ {a b c d : ℕ} (e : Some (char a b) ≡ Some (char c d)) where
+  pub same_code : a ≡ c
+  same_code = ap code_in e
+
+  pub same_width : b ≡ d
+  same_width = ap width_in e
 
 -- the least second byte is at least 0x80
 low_least : (b : ℕ) → 0x80 ≤ low b
@@ -113,16 +128,16 @@ pub record Fitting (s : List ℕ) (w : ℕ) : Type 0 where
   pub room : w ≤ length s
 
 -- a character of a sequence, and of a list of bytes, is so
-char_fitting : (b : ℕ) (r : List ℕ) (s : Sequence) → Wide (get_or r 0 0) (get_or r 1 0) (get_or r 2 0) s.width → {c w : ℕ} → char_of s ≡ Char c w → Fitting (b ∷ r) w
+char_fitting : (b : ℕ) (r : List ℕ) (s : Sequence) → Wide (get_or r 0 0) (get_or r 1 0) (get_or r 2 0) s.width → {c w : ℕ} → char_of s ≡ Some (char c w) → Fitting (b ∷ r) w
 unfolding char_of
-char_fitting b r s h {c} {w} = pick_elim (λ n. n ≡ Char c w → Fitting (b ∷ r) w) (eqb s.width 0)
-    (λ t e. let q : 1 ≡ w = cc in omega arith)
+char_fitting b r s h {c} {w} = pick_elim (λ n. n ≡ Some (char c w) → Fitting (b ∷ r) w) (eqb s.width 0)
+    (λ t e. let q = same_width e in omega arith)
     (λ t e.
-    let q : s.width ≡ w = cc in
+    let q = same_width e in
     let z = eqb-false s.width 0 t in
     record { some = omega arith; most = omega (arith, h.most); room = room b r w (subst (Wide _ _ _) q h) })
 
-pub decode_fitting : (s : List ℕ) {c w : ℕ} → decode s ≡ Char c w → Fitting s w
+pub decode_fitting : (s : List ℕ) {c w : ℕ} → decode s ≡ Some (char c w) → Fitting s w
 unfolding decode sequence_at
 decode_fitting [] {c} {w} e = let z : ◌≡◌ {A = ℕ} 0 1 = cc in omega arith
 decode_fitting (b ∷ r) e = char_fitting b r _ (wide b _ _ _) e
@@ -199,23 +214,23 @@ sequence_ascii b c d e =
     (λ t n l. absurd (n refl))))
 
 -- a character below 0x80 is its first byte
-pub char_byte : (b c d e : ℕ) {k w : ℕ} → char_of (sequence_of b c d e) ≡ Char k w → k < 0x80 → (b ≡ k) × (w ≡ 1)
+pub char_byte : (b c d e : ℕ) {k w : ℕ} → char_of (sequence_of b c d e) ≡ Some (char k w) → k < 0x80 → (b ≡ k) × (w ≡ 1)
 unfolding char_of
 char_byte b c d e {k} {w} =
     let s = sequence_of b c d e in
-    pick_elim (λ (n : Seen). n ≡ Char k w → k < 0x80 → (b ≡ k) × (w ≡ 1)) (eqb s.width 0)
-    (λ t q l. let z : 0xFFFD ≡ k = cc in absurd (omega arith))
+    pick_elim (λ (n : Option Char). n ≡ Some (char k w) → k < 0x80 → (b ≡ k) × (w ≡ 1)) (eqb s.width 0)
+    (λ t q l. let z = same_code q in absurd (omega arith))
     (λ t q l.
-    let p : s.code ≡ k = cc in
-    let r : s.width ≡ w = cc in
+    let p = same_code q in
+    let r = same_width q in
     let f = sequence_ascii b c d e (eqb-false s.width 0 t) (omega arith) in
     (ap (λ (x : Sequence). x.code) (sym f) ∙ p, sym r ∙ ap (λ (x : Sequence). x.width) f))
 
 -- a character is as its width says
-pub char_wide : (b c d e : ℕ) {k w : ℕ} → char_of (sequence_of b c d e) ≡ Char k w → Wide c d e w
+pub char_wide : (b c d e : ℕ) {k w : ℕ} → char_of (sequence_of b c d e) ≡ Some (char k w) → Wide c d e w
 unfolding char_of
 char_wide b c d e {k} {w} =
     let s = sequence_of b c d e in
-    pick_elim (λ (n : Seen). n ≡ Char k w → Wide c d e w) (eqb s.width 0)
-    (λ t q. let r : 1 ≡ w = cc in omega arith)
-    (λ t q. let r : s.width ≡ w = cc in subst (Wide c d e) r (wide b c d e))
+    pick_elim (λ (n : Option Char). n ≡ Some (char k w) → Wide c d e w) (eqb s.width 0)
+    (λ t q. let r = same_width q in omega arith)
+    (λ t q. let r = same_width q in subst (Wide c d e) r (wide b c d e))

@@ -1,9 +1,8 @@
 -- UTF-8: the sequence that four bytes begin with, the character at a place, and the longest valid prefix, for any bytes. Rests on Choice.
-use Rattle.std.specs.Prelude.{ℕ, zero, suc, pred, ◌+◌, ◌-◌, ◌*◌, List, [], ◌∷◌, ltb, eqb, get_or, drop}
+use Rattle.std.specs.Prelude.{ℕ, zero, suc, pred, ◌+◌, ◌-◌, ◌*◌, List, [], ◌∷◌, ltb, eqb, get_or, drop, Option, Some, None}
 use Rattle.utf8.specs.Choice.{pick, within}
 use Rattle.utf8.specs.declared.Sequence.{Sequence}
-use Rattle.utf8.specs.declared.Seen.{Seen}
-use Rattle.utf8.specs.declared.Seen.TheVariants.{Char, End}
+use Rattle.utf8.specs.declared.Char.{Char}
 
 -- the least second byte after the first byte b
 unfoldable pub low : ℕ → ℕ
@@ -47,17 +46,21 @@ unfoldable pub sequence_at : List ℕ → Sequence
 sequence_at [] = seq 0 0
 sequence_at (b ∷ r) = sequence_of b (get_or r 0 0) (get_or r 1 0) (get_or r 2 0)
 
+-- a character by its code and its width
+abbrev pub char : ℕ → ℕ → Char
+char c w = record { code = c; width = w }
+
 -- a sequence as a character: where there is none it is U+FFFD, one byte wide (R3.2)
-unfoldable pub char_of : Sequence → Seen
-char_of s = pick (eqb s.width 0) (Char 0xFFFD 1) (Char s.code s.width)
+unfoldable pub char_of : Sequence → Option Char
+char_of s = pick (eqb s.width 0) (Some (char 0xFFFD 1)) (Some (char s.code s.width))
 
 -- the character at the start of a list of bytes
-unfoldable pub decode : List ℕ → Seen
-decode [] = End
+unfoldable pub decode : List ℕ → Option Char
+decode [] = None
 decode (b ∷ r) = char_of (sequence_at (b ∷ r))
 
 -- the character at place i of a text (R3.2)
-unfoldable pub peek_at : List ℕ → ℕ → Seen
+unfoldable pub peek_at : List ℕ → ℕ → Option Char
 peek_at t i = decode (drop i t)
 
 -- how many bytes from the start are well-formed sequences, where the first k bytes belong to the sequence before

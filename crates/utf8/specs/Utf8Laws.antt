@@ -1,6 +1,6 @@
 -- Laws of UTF-8: the valid prefix is well-formed by table 3-7, no longer one is, and in a valid text each character is the
 -- well-formed sequence at its place. Rests on Table37, Utf8 and CharLaws.
-use Rattle.std.specs.Prelude.{ℕ, zero, suc, pred, ◌+◌, ◌≤◌, ◌<◌, ◌≡◌, refl, Bool, true, false, List, [], ◌∷◌, ◌++◌, ltb, eqb, length, get_or, take, drop}
+use Rattle.std.specs.Prelude.{ℕ, zero, suc, pred, ◌+◌, ◌≤◌, ◌<◌, ◌≡◌, refl, Bool, true, false, List, [], ◌∷◌, ◌++◌, ltb, eqb, length, get_or, take, drop, Option, Some}
 use Rattle.std.proofs.Common.{sym, ◌∙◌, ap, append_assoc, append-nil, add-zero, zero-add, add_assoc, arith, lt-ltb, le-ltb, eq-eqb, ne_eqb, eqb-true, ltb-true, ltb-false, length-append, length-drop, take-append-drop, drop_of_length-le, take-add, drop-drop, take_all, length-take-le}
 use Rattle.std.proofs.lemmas.Bool.{eqb-false}
 use Rattle.std.proofs.Math.Seq.{drop-append_seam}
@@ -10,13 +10,12 @@ use Rattle.utf8.specs.ChoiceLaws.{pick_elim, within_low, within_high, in_within}
 use Rattle.utf8.specs.Table37.{In, Row, WellFormed}
 use Rattle.utf8.specs.Table37.Row.{row1, row2, row3, row4, row5, row6, row7, row8, row9}
 use Rattle.utf8.specs.Table37.WellFormed.{none, more}
-use Rattle.utf8.specs.Utf8.{low, high, seq, code2, code3, code4, sequence_of, sequence_at, char_of, peek_at, valid, valid_prefix}
-use Rattle.utf8.specs.DecodeLaws.{second_low, sequence_room, decode_sequence}
+use Rattle.utf8.specs.Utf8.{low, high, seq, code2, code3, code4, sequence_of, sequence_at, char_of, peek_at, valid, valid_prefix, char}
+use Rattle.utf8.specs.DecodeLaws.{same_code, same_width, second_low, sequence_room, decode_sequence}
 use Rattle.utf8.specs.Chars.{Ch, chars_from}
 use Rattle.utf8.specs.CharLaws.{Peeked, peeked, First, first}
 use Rattle.utf8.specs.declared.Sequence.{Sequence}
-use Rattle.utf8.specs.declared.Seen.{Seen}
-use Rattle.utf8.specs.declared.Seen.TheVariants.{Char}
+use Rattle.utf8.specs.declared.Char.{Char}
 
 -- the bytes that belong to the sequence before are dropped
 skip : (k : ℕ) (s : List ℕ) → valid k s ≡ valid 0 (drop k s)
@@ -324,13 +323,13 @@ Real t [] = Unit {0}
 Real t (c ∷ cs) = (sequence_at (drop c.at t) ≡ seq c.code c.width) × Real t cs
 
 -- a character of a sequence that is there is that sequence
-kept : (s : Sequence) {c w : ℕ} → (s.width ≡ 0 → ⊥) → char_of s ≡ Char c w → s ≡ seq c w
+kept : (s : Sequence) {c w : ℕ} → (s.width ≡ 0 → ⊥) → char_of s ≡ Some (char c w) → s ≡ seq c w
 unfolding char_of
-kept s {c} {w} n = pick_elim (λ (m : Seen). m ≡ Char c w → s ≡ seq c w) (eqb s.width 0)
+kept s {c} {w} n = pick_elim (λ (m : Option Char). m ≡ Some (char c w) → s ≡ seq c w) (eqb s.width 0)
     (λ t e. absurd (n (eqb-true s.width 0 t)))
     (λ t e.
-    let p : s.code ≡ c = cc in
-    let q : s.width ≡ w = cc in
+    let p = same_code e in
+    let q = same_width e in
     λ i. record { code = p i; width = q i })
 
 -- so it is from any place from which the text is well-formed

@@ -1,7 +1,7 @@
 // UTF-8 at any place of any bytes: the character there, the check of a text, which goes on from where it stood, and how many characters stand between two places.
 #![tactic(auto)]
 
-ghost use Rattle.std.specs.Prelude.{◌≡◌, ◌⊎◌, true, ℕ, ◌+◌, ◌≤◌, ◌<◌, length, get_or, drop};
+ghost use Rattle.std.specs.Prelude.{◌≡◌, true, ℕ, ◌+◌, ◌-◌, ◌≤◌, ◌<◌, length, get_or, drop};
 ghost use Rattle.utf8.specs.Choice.{within};
 ghost use Rattle.utf8.specs.Utf8.{low, high, code2, code3, code4, sequence_of, sequence_at, char_of, peek_at, valid_prefix};
 ghost use Rattle.utf8.specs.Utf8Laws.{valid_end};
@@ -9,14 +9,14 @@ ghost use Rattle.utf8.specs.Chars.{chars_of, CheckedAs};
 ghost use Rattle.utf8.specs.CountLaws.{Passed};
 ghost use Rattle.utf8.specs.Blocks.{one, how_many, is_high, is_low, AsciiTo};
 
-// What stands at a place of a text: a character with its width in bytes, or nothing, past the end.
+// A character, by its code, with its width in bytes.
 #[derive(Clone, Copy)]
-pub enum Seen {
-    Char { code: u32, width: usize },
-    End,
+pub struct Char {
+    pub code: u32,
+    pub width: usize,
 }
 
-// A well-formed sequence: the code that it spells and its width in bytes. Width 0: none.
+// A well-formed sequence: the code that it spells and its width in bytes. Width 0: none; no Option, since the definition of table 3-7 answers this record (`sequence_of`).
 #[derive(Clone, Copy)]
 pub struct Sequence {
     pub code: u32,
@@ -30,19 +30,17 @@ pub struct Checked {
     pub chars: usize,
 }
 
-// The character at `at`. Bytes that are not UTF-8 are U+FFFD, one byte wide.
-pub fn peek(text: &[u8], at: usize) -> Seen
+// The character at `at`, and none past the end. Bytes that are not UTF-8 are U+FFFD, one byte wide.
+#[tactic(auto, using(crate::specs::CharLaws::past_end, crate::specs::CharLaws::ascii_char, crate::specs::DecodeLaws::decode_sequence), unfolding(crate::specs::Utf8::peek_at))]
+pub fn peek(text: &[u8], at: usize) -> Option<Char>
     ensures { result ≡ peek_at text.now at }
 {
-    if text.len() <= at {
-        return Seen::End;
-    }
-    let b = text[at];
-    if b < 0x80 {
-        return Seen::Char {
-            code: wide(b),
+    let first = *text.get(at)?;
+    if first < 0x80 {
+        return Some(Char {
+            code: u32::from(first),
             width: 1,
-        };
+        });
     }
     char_of(sequence_at(whole(text), at))
 }
@@ -56,6 +54,7 @@ pub fn whole(text: &[u8]) -> &[u8]
 }
 
 // The length of the longest prefix that is UTF-8.
+#[tactic(auto, using(crate::specs::Utf8Laws::valid_all))]
 pub fn valid_prefix(text: &[u8]) -> usize
     ensures { result ≡ valid_prefix text.now }
 {
@@ -71,6 +70,7 @@ pub fn check(text: &[u8]) -> Checked
 
 // The same, for a caller that mostly has short texts: one that is ASCII is told in place. A call would save and load its caller's registers, which counts for a
 // text of two bytes.
+#[tactic(auto, using(crate::specs::CountLaws::ascii_checked))]
 pub fn check_in_place(text: &[u8]) -> Checked
     ensures { CheckedAs text.now result.valid result.chars }
 {
@@ -85,11 +85,7 @@ pub fn check_in_place(text: &[u8]) -> Checked
 fn is_short_ascii(text: &[u8]) -> bool
     ensures { result ≡ true → how_many is_high text.now 0 (length text.now) ≡ 0 }
 {
-    let n = text.len();
-    if 32 <= n {
-        return false;
-    }
-    ascii_bytes(text, 0, n) == n
+    text.len() < 32 && ascii_bytes(text, 0, text.len()) == text.len()
 }
 
 // The check goes on at `at`, where it stood: to where the well-formed sequences from there end, with the characters that it passed.
@@ -106,6 +102,7 @@ pub fn check_from(text: &[u8], at: usize) -> Checked
     let mut i = at;
     // How many bytes stand behind the first of their character: only letters that are not ASCII have any, so blocks are passed at their speed.
     let mut later = 0;
+    // `loop`: a turn passes the ASCII up to a character and the character, which no iterator gives.
     loop {
         let j = ascii_end(text, i, n);
         let w = sequence_width(text, j);
@@ -128,9 +125,10 @@ pub fn chars_between(text: &[u8], at: usize, end: usize) -> usize
     if n < at {
         return 0;
     }
-    let stop = least(end, n);
+    let stop = end.min(n);
     let mut i = at;
     let mut chars = 0;
+    // `loop`: as in `check_from`.
     loop {
         let j = ascii_end(text, i, stop);
         chars += j - i;
@@ -147,18 +145,7 @@ fn width_at(text: &[u8], at: usize) -> usize
     requires { at < length text.now }
     ensures { (1 ≤ result) × (at + result ≤ length text.now) × Passed text.now at result }
 {
-    let s = sequence_at(text, at);
-    let w = s.width;
-    if w == 0 {
-        return 1;
-    }
-    w
-}
-
-fn least(x: usize, y: usize) -> usize
-    ensures { (result ≤ x) × (result ≤ y) × ((x ≤ result) ⊎ (y ≤ result)) }
-{
-    if x < y { x } else { y }
+    sequence_at(text, at).width.max(1)
 }
 
 // The place after the ASCII bytes at `at` that stand before `stop`, by blocks where there are many.
@@ -180,18 +167,15 @@ fn ascii_blocks(text: &[u8], at: usize, stop: usize) -> usize
         return at;
     }
     let mut i = at;
+    // `while`: the place where it stops is asked afterwards, for the last block.
     while i + 32 <= stop {
         if !is_ascii(text, i) {
             return i;
         }
         i += 32;
     }
-    if i < stop {
-        if 32 <= stop {
-            if is_ascii(text, stop - 32) {
-                return stop;
-            }
-        }
+    if i < stop && 32 <= stop && is_ascii(text, stop - 32) {
+        return stop;
     }
     i
 }
@@ -201,6 +185,7 @@ fn ascii_bytes(text: &[u8], at: usize, stop: usize) -> usize
     requires { (at ≤ length text.now) × (stop ≤ length text.now) }
     ensures { AsciiTo text.now at stop result }
 {
+    // `while`: with a `for` over the places the check of letters of three bytes took 1.25 times as long.
     let mut i = at;
     while i < stop {
         if 0x80 <= text[i] {
@@ -238,7 +223,7 @@ fn lows(text: &[u8], at: usize) -> u8
 fn low(b: u8) -> u8
     ensures { (result ≡ one (is_low b)) × (result ≤ 1) }
 {
-    if b < 0x80 { 1 } else { 0 }
+    u8::from(b < 0x80)
 }
 
 // The well-formed sequence at `at`; width 0: none.
@@ -273,6 +258,9 @@ fn sequence_width(text: &[u8], at: usize) -> usize
     }
     width_four(b, c, d, byte(text, at + 3))
 }
+
+// By hand, each width in a function of its own: tried as one `match` on the first byte with guards, the check of text beyond ASCII, and `peek` there, took 1.1 to 1.2
+// times as long.
 
 // 2 where the bytes are a sequence of two, else 0.
 fn width_two(b: u8, c: u8) -> usize
@@ -314,42 +302,47 @@ fn width_four(b: u8, c: u8, d: u8, e: u8) -> usize
 }
 
 // The code of the sequence at `at`, whose width is given.
+#[tactic(auto, using(crate::specs::DecodeLaws::spelled, crate::specs::DecodeLaws::no_code))]
 fn code_at(text: &[u8], at: usize, width: usize) -> u32
     requires { width ≡ (sequence_at (drop at text.now)).width }
     ensures { result ≡ (sequence_at (drop at text.now)).code }
 {
-    if width == 0 {
-        return 0;
+    match width {
+        0 => 0,
+        1 => u32::from(text[at]),
+        2 => (u32::from(text[at]) - 0xC0) * 64 + bits(text[at + 1]),
+        3 => (u32::from(text[at]) - 0xE0) * 4096 + bits(text[at + 1]) * 64 + bits(text[at + 2]),
+        _ => {
+            (u32::from(text[at]) - 0xF0) * 262144
+                + bits(text[at + 1]) * 4096
+                + bits(text[at + 2]) * 64
+                + bits(text[at + 3])
+        }
     }
-    let b = text[at];
-    if width == 1 {
-        return wide(b);
-    }
-    let c = text[at + 1];
-    if width == 2 {
-        return two(b, c);
-    }
-    let d = text[at + 2];
-    if width == 3 {
-        return three(b, c, d);
-    }
-    four(b, c, d, text[at + 3])
+}
+
+// What a byte after the first adds to a code: its six low bits.
+fn bits(b: u8) -> u32
+    requires { 0x80 ≤ b }
+    ensures { result ≡ b - 0x80 }
+{
+    u32::from(b) - 0x80
 }
 
 // A sequence as a character: U+FFFD, one byte wide, where there is none.
-fn char_of(s: Sequence) -> Seen
+#[tactic(auto, unfolding(crate::specs::Utf8::char_of, crate::specs::Choice::pick))]
+fn char_of(s: Sequence) -> Option<Char>
     ensures { result ≡ char_of s }
 {
-    let w = s.width;
-    if w == 0 {
-        return Seen::Char {
+    match s.width {
+        0 => Some(Char {
             code: 0xFFFD,
             width: 1,
-        };
-    }
-    Seen::Char {
-        code: s.code,
-        width: w,
+        }),
+        width => Some(Char {
+            code: s.code,
+            width,
+        }),
     }
 }
 
@@ -391,6 +384,7 @@ fn high_of(b: u8) -> u8
     }
 }
 
+// By hand: tried as a range's `contains` and as a pattern, the check of text beyond ASCII took 1.1 to 1.4 times as long.
 fn in_range(x: u8, lo: u8, hi: u8) -> bool
     ensures { result ≡ within x lo hi }
 {
@@ -401,39 +395,9 @@ fn in_range(x: u8, lo: u8, hi: u8) -> bool
     }
 }
 
-// The code that two bytes spell.
-fn two(b: u8, c: u8) -> u32
-    requires { (0xC0 ≤ b) × (0x80 ≤ c) }
-    ensures { result ≡ code2 b c }
-{
-    (wide(b) - 0xC0) * 64 + (wide(c) - 0x80)
-}
-
-// The code that three bytes spell.
-fn three(b: u8, c: u8, d: u8) -> u32
-    requires { (0xE0 ≤ b) × (0x80 ≤ c) × (0x80 ≤ d) }
-    ensures { result ≡ code3 b c d }
-{
-    (wide(b) - 0xE0) * 4096 + (wide(c) - 0x80) * 64 + (wide(d) - 0x80)
-}
-
-// The code that four bytes spell.
-fn four(b: u8, c: u8, d: u8, e: u8) -> u32
-    requires { (0xF0 ≤ b) × (0x80 ≤ c) × (0x80 ≤ d) × (0x80 ≤ e) }
-    ensures { result ≡ code4 b c d e }
-{
-    (wide(b) - 0xF0) * 262144 + (wide(c) - 0x80) * 4096 + (wide(d) - 0x80) * 64 + (wide(e) - 0x80)
-}
-
 // The byte at `at`, and 0 past the end.
 pub fn byte(text: &[u8], at: usize) -> u8
     ensures { result ≡ get_or text.now at 0 }
 {
-    if at < text.len() { text[at] } else { 0 }
-}
-
-fn wide(x: u8) -> u32
-    ensures { result ≡ x }
-{
-    x as u32
+    text.get(at).copied().unwrap_or(0)
 }

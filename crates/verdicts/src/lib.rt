@@ -9,7 +9,7 @@ ghost use Rattle.verdicts.specs.Calls.{Asked, told_of, told_words};
 use membership::Verdict;
 use words::request::request_of;
 
-// A verdict told in numbers: a refusal's number and place, the broken rule and its piece; what it does not have is 0.
+// A verdict told in numbers: a refusal's number and place, the broken rule and its piece; what it does not have is 0. Numbers, as C's header has them.
 #[derive(Clone, Copy)]
 pub struct Told {
     pub number: u8,

@@ -1,4 +1,5 @@
 -- The parts of a count, a piece and an error record are laid one after another, and so the whole of it is. Rests on Laying and Layout.
+use Rattle.std.specs.Prelude.{Option}
 use Prim.Native.Nat.{ℕ, ◌+◌, ◌≤◌}
 use mathlib.Core.Path.{◌≡◌}
 use mathlib.Core.List.{List}
@@ -7,15 +8,15 @@ use lib.ListN.{length}
 use Rattle.frame.specs.declared.TextRange.{TextRange}
 use Rattle.scan.specs.declared.Count.{Count}
 use Rattle.placeholder.specs.declared.Argument.{Argument}
-use Rattle.placeholder.specs.declared.MaybeSpan.{MaybeSpan}
 use Rattle.reading.specs.declared.ErrorRecord.{ErrorRecord}
 use Rattle.words.specs.Laid.{laid}
 use Rattle.words.specs.Layout.{low_of, four, none, bit_of, align_of, sign_of, hex_of, place_tag, place_words, fill_words, span_words, count_data, name_span_end, count_words, range_words, head_words, spec_words, argument_words, zeros, literal_words, error_words}
 use Rattle.words.specs.LaidLaws.{fill_words_length, place_words_length, span_words_length, count_data_length, count_words_length, range_words_length, argument_words_length, zeros_length, literal_words_length, error_words_length}
 use Rattle.words.proofs.Laying.{laying_first, laying_on, laying_last}
+use Rattle.frame.specs.declared.Span.{Span}
 
 module _ (l : List ℕ) (k : ℕ) where
-  module _ (c : Count) (s : MaybeSpan) (room : k + 8 ≤ length l) {l₁ l₂ : List ℕ} where
+  module _ (c : Count) (s : Option Span) (room : k + 8 ≤ length l) {l₁ l₂ : List ℕ} where
     pub count_laid : l₁ ≡ laid l k (count_data c) → l₂ ≡ laid l₁ (k + 4) (span_words (name_span_end c) s) → l₂ ≡ laid l k (count_words c s)
     count_laid w₁ w₂ =
         let a = laying_first l k (count_words c s) (omega (arith, count_words_length c s)) in

@@ -1,5 +1,5 @@
 -- The calls for other languages: the public call's answer and lists, as numbers.
-use Rattle.std.specs.Prelude.{ℕ, ◌/◌, ◌≡◌, Bool, true, false, List, [], ◌∷◌, eqb, ltb, length}
+use Rattle.std.specs.Prelude.{ℕ, ◌/◌, ◌≡◌, Bool, true, false, List, [], ◌∷◌, eqb, ltb, length, Option, Some, None}
 use Rattle.utf8.specs.Choice.{pick}
 use Rattle.frame.specs.declared.Frame.{Frame}
 use Rattle.frame.specs.declared.Mode.{Mode}
@@ -7,7 +7,6 @@ use Rattle.reading.specs.Lists.{gather, pieces, errors, places, lines}
 use Rattle.reading.specs.Answers.{answer_of, frame_for, mode_for}
 use Rattle.reading.specs.Written.{over, pairs}
 use Rattle.reading.specs.Exits.{at_exit}
-use Rattle.reading.specs.declared.Hashes.{Hashes}
 use Rattle.reading.specs.declared.Request.{Request}
 use Rattle.reading.specs.declared.Rooms.{Rooms}
 use Rattle.reading.specs.declared.Answer.{Answer}
@@ -18,8 +17,8 @@ unfoldable pub is_yes : ℕ → Bool
 is_yes n = pick (eqb n 0) false true
 
 -- a style of 0 is none, any other is a raw string with so many hashes
-unfoldable pub style_of : ℕ → ℕ → Hashes
-style_of style hashes = pick (eqb style 0) Hashes.Plain (Hashes.Raw hashes)
+unfoldable pub style_of : ℕ → ℕ → Option ℕ
+style_of style hashes = pick (eqb style 0) None (Some hashes)
 
 -- the request that numbers make (R9.1)
 unfoldable pub request_of : ℕ → ℕ → ℕ → ℕ → ℕ → Request

@@ -1,6 +1,6 @@
 -- Numbers laid over a list: the list keeps its length, and what is laid one after another is laid as one. Then how many numbers
 -- each part of a record has. Rests on Laid and Layout.
-use Rattle.std.specs.Prelude.{ℕ, ◌+◌, ◌≤◌, ◌≡◌, refl, List, ◌++◌}
+use Rattle.std.specs.Prelude.{ℕ, ◌+◌, ◌≤◌, ◌≡◌, refl, List, ◌++◌, Option, Some, None}
 use Rattle.std.proofs.Math.Path.{sym, ap}
 use Rattle.std.proofs.Common.{◌∙◌, append_assoc, length-drop, take_at, drop_at}
 use native.Mathlib.Omega.{arith}
@@ -12,11 +12,9 @@ use Rattle.frame.specs.declared.TextRange.{TextRange}
 use Rattle.scan.specs.declared.Count.{Count}
 use Rattle.placeholder.specs.declared.Argument.{Argument}
 use Rattle.placeholder.specs.declared.Fill.{Fill}
-use Rattle.placeholder.specs.declared.MaybeSpan.{MaybeSpan}
 use Rattle.placeholder.specs.declared.Place.{Place}
 use Rattle.placeholder.specs.declared.Spec.{Spec}
 use Rattle.reading.specs.declared.ErrorRecord.{ErrorRecord}
-use Rattle.reading.specs.declared.MaybeRange.{MaybeRange}
 use Rattle.reading.specs.declared.Piece.{Piece}
 use Rattle.words.specs.Laid.{laid}
 use Rattle.words.specs.Layout.{fill_words, place_words, span_words, count_data, name_span_end, count_words, range_words, spec_words, argument_words, zeros, literal_words, piece_words, error_words}
@@ -61,18 +59,18 @@ module _ {A : Type 0} (old : List A) (k : ℕ) where
         rw (j, a, d) (simp append_assoc)
 
 -- LENGTHS
-pub fill_words_length : (f : Fill) → length (fill_words f) ≡ 4
-fill_words_length Fill.Absent = refl
-fill_words_length (Fill.Present c s) = refl
+pub fill_words_length : (f : Option Fill) → length (fill_words f) ≡ 4
+fill_words_length None = refl
+fill_words_length (Some f) = refl
 
 pub place_words_length : (p : Place) (s : Span) → length (place_words p s) ≡ 4
 place_words_length (Place.Next n) s = refl
 place_words_length (Place.At n) s = refl
 place_words_length (Place.Named r) s = refl
 
-pub span_words_length : (first : ℕ) (s : MaybeSpan) → length (span_words first s) ≡ 4
-span_words_length first MaybeSpan.Absent = refl
-span_words_length first (MaybeSpan.Present s) = refl
+pub span_words_length : (first : ℕ) (s : Option Span) → length (span_words first s) ≡ 4
+span_words_length first None = refl
+span_words_length first (Some s) = refl
 
 pub count_data_length : (c : Count) → length (count_data c) ≡ 4
 count_data_length Count.Implied = refl
@@ -81,13 +79,13 @@ count_data_length (Count.ByName r s) = refl
 count_data_length (Count.ByArgument n) = refl
 count_data_length (Count.ByStar n) = refl
 
-pub count_words_length : (c : Count) (s : MaybeSpan) → length (count_words c s) ≡ 8
+pub count_words_length : (c : Count) (s : Option Span) → length (count_words c s) ≡ 8
 count_words_length c s =
     omega (arith, length-append (count_data c) (span_words (name_span_end c) s), count_data_length c, span_words_length (name_span_end c) s)
 
-pub range_words_length : (r : MaybeRange) → length (range_words r) ≡ 4
-range_words_length MaybeRange.Absent = refl
-range_words_length (MaybeRange.Present r) = refl
+pub range_words_length : (r : Option TextRange) → length (range_words r) ≡ 4
+range_words_length None = refl
+range_words_length (Some r) = refl
 
 pub spec_words_length : (s : Spec) → length (spec_words s) ≡ 32
 unfolding spec_words

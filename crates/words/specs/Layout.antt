@@ -1,5 +1,5 @@
 -- A piece as 40 numbers and an error record as 16, each below 2^32. What is absent is 0.
-use Rattle.std.specs.Prelude.{ℕ, ◌%◌, Bool, true, false, List, [], ◌∷◌, ◌++◌}
+use Rattle.std.specs.Prelude.{ℕ, ◌%◌, Bool, true, false, List, [], ◌∷◌, ◌++◌, Option, Some, None}
 use Rattle.frame.specs.declared.Span.{Span}
 use Rattle.frame.specs.declared.TextRange.{TextRange}
 use Rattle.scan.specs.declared.Count.{Count}
@@ -8,12 +8,10 @@ use Rattle.placeholder.specs.declared.Align.{Align}
 use Rattle.placeholder.specs.declared.Argument.{Argument}
 use Rattle.placeholder.specs.declared.Fill.{Fill}
 use Rattle.placeholder.specs.declared.Hex.{Hex}
-use Rattle.placeholder.specs.declared.MaybeSpan.{MaybeSpan}
 use Rattle.placeholder.specs.declared.Place.{Place}
 use Rattle.placeholder.specs.declared.Sign.{Sign}
 use Rattle.placeholder.specs.declared.Spec.{Spec}
 use Rattle.reading.specs.declared.ErrorRecord.{ErrorRecord}
-use Rattle.reading.specs.declared.MaybeRange.{MaybeRange}
 use Rattle.reading.specs.declared.Piece.{Piece}
 
 -- a number's low 32 bits
@@ -67,14 +65,14 @@ place_words (Place.Next n) s = four (low_of n) 0 (low_of s.start.0) (low_of s.en
 place_words (Place.At n) s = four (numeral_of n) 0 (low_of s.start.0) (low_of s.end.0)
 place_words (Place.Named r) s = four (low_of r.start.0) (low_of r.end.0) (low_of s.start.0) (low_of s.end.0)
 
-abbrev pub fill_words : Fill → List ℕ
-fill_words Fill.Absent = none
-fill_words (Fill.Present c s) = four 1 c (low_of s.start.0) (low_of s.end.0)
+abbrev pub fill_words : Option Fill → List ℕ
+fill_words None = none
+fill_words (Some f) = four 1 f.code (low_of f.span.start.0) (low_of f.span.end.0)
 
 -- a number, and a span that may be absent
-abbrev pub span_words : ℕ → MaybeSpan → List ℕ
-span_words first MaybeSpan.Absent = four first 0 0 0
-span_words first (MaybeSpan.Present s) = four first 1 (low_of s.start.0) (low_of s.end.0)
+abbrev pub span_words : ℕ → Option Span → List ℕ
+span_words first None = four first 0 0 0
+span_words first (Some s) = four first 1 (low_of s.start.0) (low_of s.end.0)
 
 -- a count's kind and data, but for the end of a name's span
 abbrev pub count_data : Count → List ℕ
@@ -92,12 +90,12 @@ name_span_end (Count.ByStar n) = 0
 name_span_end (Count.ByName r s) = low_of s.end.0
 
 -- a width or a precision, and its span
-abbrev pub count_words : Count → MaybeSpan → List ℕ
+abbrev pub count_words : Count → Option Span → List ℕ
 count_words c s = count_data c ++ span_words (name_span_end c) s
 
-abbrev pub range_words : MaybeRange → List ℕ
-range_words MaybeRange.Absent = none
-range_words (MaybeRange.Present r) = four 0 1 (low_of r.start.0) (low_of r.end.0)
+abbrev pub range_words : Option TextRange → List ℕ
+range_words None = none
+range_words (Some r) = four 0 1 (low_of r.start.0) (low_of r.end.0)
 
 -- a piece's kind (0 a literal, 1 an argument), its bytes, and an argument's kind of place
 abbrev pub head_words : ℕ → TextRange → ℕ → List ℕ

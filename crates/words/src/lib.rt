@@ -8,9 +8,9 @@ ghost use Rattle.words.specs.Laid.{laid};
 ghost use Rattle.words.specs.Layout.{low_of, four, bit_of, align_of, sign_of, hex_of, numeral_tag, numeral_of, place_tag, place_words, fill_words, span_words, count_data, name_span_end, count_words, range_words, argument_words, zeros, literal_words, error_words};
 ghost use Rattle.reading.specs.Records.{bare_error};
 
-use frame::Span;
-use placeholder::{Align, Argument, Fill, Hex, MaybeSpan, Place, Sign};
-use reading::{ErrorRecord, MaybeRange};
+use frame::{Span, TextRange};
+use placeholder::{Align, Argument, Fill, Hex, Place, Sign};
+use reading::ErrorRecord;
 use scan::{Count, Numeral};
 
 pub mod request; // request.rt: a request from the numbers of a call
@@ -35,9 +35,10 @@ pub fn put4(out: &mut [u32], at: usize, a: u32, b: u32, c: u32, d: u32)
 pub fn bit(b: bool) -> u32
     ensures { result ≡ bit_of b }
 {
-    if b { 1 } else { 0 }
+    u32::from(b)
 }
 
+// The enums' numbers by matches: they are those of the layout, and an `impl From` would stand in the enums' crate, which knows no layout.
 pub fn align_word(align: Align) -> u32
     ensures { result ≡ align_of align }
 {
@@ -111,24 +112,27 @@ fn put_place(out: &mut [u32], k: usize, place: Place, span: Span)
     }
 }
 
-fn put_fill(out: &mut [u32], k: usize, fill: Fill)
+fn put_fill(out: &mut [u32], k: usize, fill: Option<Fill>)
     requires { k + 4 ≤ length out.old }
     ensures { out.new ≡ laid out.old k (fill_words fill) }
 {
     match fill {
-        Fill::Absent => put4(out, k, 0, 0, 0, 0),
-        Fill::Present(code, span) => put4(out, k, 1, code, low(span.start.0), low(span.end.0)),
+        None => put4(out, k, 0, 0, 0, 0),
+        Some(fill) => {
+            let span = fill.span;
+            put4(out, k, 1, fill.code, low(span.start.0), low(span.end.0))
+        }
     }
 }
 
 // A number, and a span that may be absent.
-pub fn put_span(out: &mut [u32], k: usize, first: u32, span: MaybeSpan)
+pub fn put_span(out: &mut [u32], k: usize, first: u32, span: Option<Span>)
     requires { k + 4 ≤ length out.old }
     ensures { out.new ≡ laid out.old k (span_words first span) }
 {
     match span {
-        MaybeSpan::Absent => put4(out, k, first, 0, 0, 0),
-        MaybeSpan::Present(span) => put4(out, k, first, 1, low(span.start.0), low(span.end.0)),
+        None => put4(out, k, first, 0, 0, 0),
+        Some(span) => put4(out, k, first, 1, low(span.start.0), low(span.end.0)),
     }
 }
 
@@ -160,15 +164,12 @@ fn name_span_end(count: Count) -> u32
     ensures { result ≡ name_span_end count }
 {
     match count {
-        Count::Implied => 0,
-        Count::Fixed(_) => 0,
-        Count::ByArgument(_) => 0,
-        Count::ByStar(_) => 0,
         Count::ByName(_, span) => low(span.end.0),
+        Count::Implied | Count::Fixed(_) | Count::ByArgument(_) | Count::ByStar(_) => 0,
     }
 }
 
-fn put_count(out: &mut [u32], k: usize, count: Count, span: MaybeSpan)
+fn put_count(out: &mut [u32], k: usize, count: Count, span: Option<Span>)
     requires { k + 8 ≤ length out.old }
     ensures { out.new ≡ laid out.old k (count_words count span) }
 {
@@ -182,49 +183,38 @@ pub fn put_argument(out: &mut [u32], n: usize, argument: Argument)
     ensures { out.new ≡ laid out.old (40 * n) (argument_words argument) }
 {
     let k = 40 * n;
-    let place = argument.place;
-    let placespan = argument.placespan;
     let range = argument.range;
     let spec = argument.spec;
-    let fill = spec.fill;
-    let align = spec.align;
-    let sign = spec.sign;
-    let hex = spec.hex;
-    let width = spec.width;
-    let widthspan = spec.widthspan;
-    let precision = spec.precision;
-    let precisionspan = spec.precisionspan;
     let typetext = spec.typetext;
-    let typespan = spec.typespan;
     put4(
         &mut *out,
         k,
         1,
         low(range.start.0),
         low(range.end.0),
-        place_tag(place),
+        place_tag(argument.place),
     );
-    put_place(&mut *out, k + 4, place, placespan);
-    put_fill(&mut *out, k + 8, fill);
+    put_place(&mut *out, k + 4, argument.place, argument.placespan);
+    put_fill(&mut *out, k + 8, spec.fill);
     put4(
         &mut *out,
         k + 12,
-        align_word(align),
-        sign_word(sign),
+        align_word(spec.align),
+        sign_word(spec.sign),
         bit(spec.alternate),
         bit(spec.zero),
     );
-    put_count(&mut *out, k + 16, width, widthspan);
-    put_count(&mut *out, k + 24, precision, precisionspan);
+    put_count(&mut *out, k + 16, spec.width, spec.widthspan);
+    put_count(&mut *out, k + 24, spec.precision, spec.precisionspan);
     put4(
         &mut *out,
         k + 32,
         low(typetext.start.0),
         low(typetext.end.0),
-        hex_word(hex),
+        hex_word(spec.hex),
         0,
     );
-    put_span(out, k + 36, 0, typespan);
+    put_span(out, k + 36, 0, spec.typespan);
 }
 
 // Numbers that mean nothing in a record are 0.
@@ -253,13 +243,13 @@ pub fn put_literal(out: &mut [u32], n: usize, start: usize, end: usize)
     put4(out, k + 36, 0, 0, 0, 0);
 }
 
-fn put_range(out: &mut [u32], k: usize, range: MaybeRange)
+fn put_range(out: &mut [u32], k: usize, range: Option<TextRange>)
     requires { k + 4 ≤ length out.old }
     ensures { out.new ≡ laid out.old k (range_words range) }
 {
     match range {
-        MaybeRange::Absent => put4(out, k, 0, 0, 0, 0),
-        MaybeRange::Present(range) => put4(out, k, 0, 1, low(range.start.0), low(range.end.0)),
+        None => put4(out, k, 0, 0, 0, 0),
+        Some(range) => put4(out, k, 0, 1, low(range.start.0), low(range.end.0)),
     }
 }
 
@@ -270,9 +260,6 @@ pub fn put_error(out: &mut [u32], n: usize, record: ErrorRecord)
 {
     let k = 16 * n;
     let span = record.span;
-    let second = record.second;
-    let quoted = record.quoted;
-    let suggestion = record.suggestion;
     put4(
         &mut *out,
         k,
@@ -281,9 +268,9 @@ pub fn put_error(out: &mut [u32], n: usize, record: ErrorRecord)
         low(span.end.0),
         low(record.piece),
     );
-    put_span(&mut *out, k + 4, 0, second);
-    put_range(&mut *out, k + 8, quoted);
-    put_span(out, k + 12, 0, suggestion);
+    put_span(&mut *out, k + 4, 0, record.second);
+    put_range(&mut *out, k + 8, record.quoted);
+    put_span(out, k + 12, 0, record.suggestion);
 }
 
 // The n-th error record, where it has a kind, a span and the number of its piece alone.

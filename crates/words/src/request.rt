@@ -2,7 +2,7 @@
 ghost use Rattle.std.specs.Prelude.{◌≡◌};
 ghost use Rattle.words.specs.Calls.{style_of, request_of};
 
-use reading::{Hashes, Request};
+use reading::Request;
 
 // How a text is to be read. Any mark but 0 is a yes.
 pub fn request_of(mode: u8, style: u8, hashes: usize, given: u8, newline: u8) -> Request
@@ -16,11 +16,9 @@ pub fn request_of(mode: u8, style: u8, hashes: usize, given: u8, newline: u8) ->
     }
 }
 
-fn style_of(style: u8, hashes: usize) -> Hashes
+#[tactic(auto, unfolding(crate::specs::Calls::style_of, utf8::specs::Choice::pick))]
+fn style_of(style: u8, hashes: usize) -> Option<usize>
     ensures { result ≡ style_of style hashes }
 {
-    if style == 0 {
-        return Hashes::Plain;
-    }
-    Hashes::Raw(hashes)
+    (style != 0).then_some(hashes)
 }

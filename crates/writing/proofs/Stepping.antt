@@ -1,7 +1,7 @@
 -- A step's piece and its records, by what the step is, and where reading goes on. Rests on StepsWritten.
+use Rattle.std.specs.Prelude.{Option}
 use Prim.Native.Nat.{ℕ, ◌+◌, ◌*◌, ◌≤◌}
 use mathlib.Core.Path.{◌≡◌, refl, sym, ap, ◌∙◌}
-use mathlib.Core.Bool.{true, false, true≢false}
 use mathlib.Core.List.{List}
 use native.Mathlib.Omega.{arith}
 use lib.ListN.{length}
@@ -15,7 +15,6 @@ use Rattle.reading.specs.Lists.{gather}
 use Rattle.laws.specs.ListLaws.{gather_one}
 use Rattle.laws.specs.MoveLaws.{given_by}
 use Rattle.reading.specs.Steps.{step_at, onward}
-use Rattle.reading.specs.declared.Onward.{Onward}
 use Rattle.reading.specs.declared.Piece.{Piece}
 use Rattle.reading.specs.declared.State.{State}
 use Rattle.reading.specs.declared.Step.{Step}
@@ -67,8 +66,5 @@ module _ (t : List ℕ) (f : Frame) {m : Extent} {ps es : List ℕ} where
 -- WHERE READING GOES ON: as it does after the step
 module _ (t : List ℕ) (f : Frame) (m : Mode) (s : State) {x : Step} (e : x ≡ step_at t f m s) {k r : Extent} {ps es ps' es' : List ℕ} (w : Stepped t f x k ps es r ps' es') where
   module _ {g : ℕ} (b : g ≡ given_by x) where
-    pub stepped_on : {a : State} → onward s x ≡ Onward.To a → SteppedOn t f m s k ps es (record { more = true; state = a; extent = r; given = g }) ps' es'
-    stepped_on o = record { stepped = rw (← e) w; on = λ _. rw (← e) o; over = λ y. absurd (true≢false y); given = rw (← e) b }
-
-    pub stepped_over : (a : State) → onward s x ≡ Onward.Over → SteppedOn t f m s k ps es (record { more = false; state = a; extent = r; given = g }) ps' es'
-    stepped_over a o = record { stepped = rw (← e) w; on = λ y. absurd (true≢false (sym y)); over = λ _. rw (← e) o; given = rw (← e) b }
+    pub stepped_on : {n : Option State} → n ≡ onward s x → SteppedOn t f m s k ps es (record { next = n; extent = r; given = g }) ps' es'
+    stepped_on o = record { stepped = rw (← e) w; next = rw (← e) o; given = rw (← e) b }

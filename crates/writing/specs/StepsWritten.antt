@@ -1,5 +1,5 @@
 -- What the functions that write a step come to, part by part. Rests on words' Layout and reading's Steps, Faults and Lists.
-use Rattle.std.specs.Prelude.{ℕ, ◌+◌, ◌-◌, ◌*◌, ◌≤◌, ◌≡◌, true, false, List, [], ◌∷◌, eqb, length}
+use Rattle.std.specs.Prelude.{ℕ, ◌+◌, ◌-◌, ◌*◌, ◌≤◌, ◌≡◌, List, [], ◌∷◌, eqb, length}
 use Rattle.utf8.specs.Choice.{pick}
 use Rattle.frame.specs.declared.Frame.{Frame}
 use Rattle.frame.specs.declared.Mode.{Mode}
@@ -10,7 +10,6 @@ use Rattle.reading.specs.Steps.{step_at, onward}
 use Rattle.laws.specs.MoveLaws.{given_by}
 use Rattle.reading.specs.declared.ErrorRecord.{ErrorRecord}
 use Rattle.reading.specs.declared.Fault.{Fault}
-use Rattle.reading.specs.declared.Onward.{Onward}
 use Rattle.reading.specs.declared.State.{State}
 use Rattle.reading.specs.declared.Step.{Step}
 use Rattle.words.specs.Laid.{laid}
@@ -105,6 +104,5 @@ pub record Stepped (t : List ℕ) (f : Frame) (x : Step) (m : Extent) (ps es : L
 -- and reading goes on as it does after the step
 pub record SteppedOn (t : List ℕ) (f : Frame) (m : Mode) (s : State) (k : Extent) (ps es : List ℕ) (r : StepWritten) (ps' es' : List ℕ) : Type 0 where
   pub stepped : Stepped t f (step_at t f m s) k ps es r.extent ps' es'
-  pub on : r.more ≡ true → onward s (step_at t f m s) ≡ Onward.To r.state
-  pub over : r.more ≡ false → onward s (step_at t f m s) ≡ Onward.Over
+  pub next : r.next ≡ onward s (step_at t f m s)
   pub given : r.given ≡ given_by (step_at t f m s)

@@ -11,7 +11,7 @@ ghost use Rattle.words.specs.Layout.{error_words};
 ghost use Rattle.writing.specs.StepsWritten.{noted_by, noticed, Room, Notes, one_more, StepRoom, Stepped, SteppedOn};
 
 use frame::{Frame, Mode};
-use reading::{Fault, Onward, State, Step};
+use reading::{Fault, State, Step};
 use words::{put_argument, put_error, put_literal};
 
 // What is written: how many pieces, where the error records begin and end, and how many records of the front were met.
@@ -23,11 +23,10 @@ pub struct Extent {
     pub fronts: usize,
 }
 
-// Whether reading goes on, where it stands, what is written, and how many characters the step gave back.
+// Where reading goes on, if it does, what is written, and how many characters the step gave back.
 #[derive(Clone, Copy)]
 pub struct StepWritten {
-    pub more: bool,
-    pub state: State,
+    pub next: Option<State>,
     pub extent: Extent,
     pub given: usize,
 }
@@ -95,11 +94,12 @@ fn walk_faults(text: &[u8], frame: Frame, step: Step, errors: &mut [u32], extent
     ensures { Notes text.now frame extent errors.old (step_slots step) result errors.new }
 {
     let mut after = extent;
-    let mut k = faults::first_wrong(step, 0);
-    while k < 13 {
+    for k in 0..13 {
         let fault = faults::fault_at(step, k);
+        if faults::is_clean(fault) {
+            continue;
+        }
         after = put_fault(text, frame, fault, &mut *errors, after);
-        k = faults::first_wrong(step, k + 1);
     }
     after
 }
@@ -159,20 +159,9 @@ pub fn write_step(
     ensures { SteppedOn text.now frame mode state extent pieces.old errors.old result pieces.new errors.new }
 {
     let step = steps::step_at(text, frame, mode, state);
-    let after = put_step(text, frame, step, pieces, errors, extent);
-    let given = steps::given_by(step);
-    match steps::go_on(state, step) {
-        Onward::Over => StepWritten {
-            more: false,
-            state,
-            extent: after,
-            given,
-        },
-        Onward::To(on) => StepWritten {
-            more: true,
-            state: on,
-            extent: after,
-            given,
-        },
+    StepWritten {
+        next: steps::go_on(state, step),
+        extent: put_step(text, frame, step, pieces, errors, extent),
+        given: steps::given_by(step),
     }
 }

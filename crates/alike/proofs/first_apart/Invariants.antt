@@ -3,8 +3,8 @@ use Rattle.std.proofs.Common.{◌-◌, length}
 use Rattle.turns.specs.Turns.{Fresh}
 use Rattle.alike.proofs.first_apart.Given as goal
 
-abbrev pub invariant-loop-f : goal.invariant-loop-f
-invariant-loop-f l = Fresh l.a.cursor × Fresh l.b.cursor
+abbrev pub invariant-loop-a : goal.invariant-loop-a
+invariant-loop-a l = Fresh l.c × Fresh l.d
 
-abbrev pub decreases-loop-f : goal.decreases-loop-f
-decreases-loop-f l = length l.one - l.i
+abbrev pub decreases-loop-a : goal.decreases-loop-a
+decreases-loop-a l = length l.one - l.i

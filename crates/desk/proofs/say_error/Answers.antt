@@ -3,4 +3,4 @@ use Rattle.answer.specs.DecisionLaws.{opened_small}
 use Rattle.desk.proofs.say_error.Goals as goal
 
 pub say_first_error-requires : goal.say_first_error-requires
-say_first_error-requires g c = opened_small _ _ _ c.opened-first.ensures c.if-first-ne0.false
+say_first_error-requires g c = opened_small _ _ _ (rw c.in-Ok.is at c.opened.ensures)

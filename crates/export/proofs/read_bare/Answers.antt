@@ -6,14 +6,14 @@ use Rattle.utf8.specs.CountLaws.{all_passed}
 use Rattle.export.proofs.Bare.{bare_broken, bare_ample, bare_filled}
 use Rattle.export.proofs.read_bare.Goals as goal
 
-pub returns-then-checked-text : goal.returns-then-checked-text
-returns-then-checked-text c = bare_broken _ _ _ c.requires c.check_in_place-checked.ensures.0 c.if-checked-text.true c.broken_at.ensures
+pub returns-then-valid-text : goal.returns-then-valid-text
+returns-then-valid-text c = bare_broken _ _ _ c.requires c.check_in_place-checked.ensures.0 c.if-valid-text.true c.from.ensures
 
 pub filled-requires : goal.filled-requires
 filled-requires c =
     let t = c.args.text.now in
     let e = c.check_in_place-checked.ensures in
-    (bare_ample t _ _ c.requires, e.1 ∙ all_passed t (omega (arith, valid_within t, e.0, c.if-checked-text.false)))
+    (bare_ample t _ _ c.requires, e.1 ∙ all_passed t (omega (arith, valid_within t, e.0, c.if-valid-text.false)))
 
 pub returns : goal.returns
-returns c = bare_filled _ _ _ c.requires c.check_in_place-checked.ensures.0 c.if-checked-text.false c.filled.ensures
+returns c = bare_filled _ _ _ c.requires c.check_in_place-checked.ensures.0 c.if-valid-text.false c.filled.ensures

@@ -3,17 +3,8 @@ use mathlib.Core.Path.{sym, ◌∙◌}
 use Rattle.laws.specs.FaultLaws.{placeholder_argument, placeholder_closing}
 use Rattle.faults.proofs.placeholder_fault.Goals as goal
 
-pub argument_flaw-requires : goal.argument_flaw-requires
-argument_flaw-requires c = tt
-
-pub of_flaw-requires : goal.of_flaw-requires
-of_flaw-requires c = tt
-
 pub returns-then-k-lt5 : goal.returns-then-k-lt5
 returns-then-k-lt5 c = c.of_flaw.ensures ∙ c.argument_flaw.ensures ∙ sym (placeholder_argument _ _ _ _ c.if-k-lt5.true)
 
-pub closing_fault-requires : goal.closing_fault-requires
-closing_fault-requires c = tt
-
-pub returns : goal.returns
-returns c = c.closing_fault.ensures ∙ sym (placeholder_closing _ _ _ _ c.if-k-lt5.false)
+pub returns-else-k-lt5 : goal.returns-else-k-lt5
+returns-else-k-lt5 c = c.closing_fault.ensures ∙ sym (placeholder_closing _ _ _ _ c.if-k-lt5.false)

@@ -2,7 +2,7 @@
 use mathlib.Core.Path.{sym, ◌∙◌, ap}
 use Rattle.quick.specs.PartsTold.{sign_byte}
 use Rattle.quick.proofs.Bytes.{room_past}
-use Rattle.quick.proofs.Parts.{sign_some, type_sign, type_named}
+use Rattle.quick.proofs.Parts.{sign_some, type_signed, type_named}
 use Rattle.flawless.proofs.Closing.{type_none_lem}
 use Rattle.flawless.proofs.type_at.Goals.{then-at-from, else-at-from}
 use Rattle.flawless.proofs.type_at.Goals as goal
@@ -16,7 +16,7 @@ sign_type-requires c =
 
 pub returns-then-is_type_sign : goal.returns-then-is_type_sign
 returns-then-is_type_sign c =
-    rw c.sign_type.ensures (type_sign (ap sign_byte (sym c.byte-b.ensures) ∙ sym c.is_type_sign.ensures ∙ c.if-is_type_sign.true))
+    rw c.sign_type.ensures (type_signed _ _ (ap sign_byte (sym c.byte-b.ensures) ∙ sym c.is_type_sign.ensures ∙ c.if-is_type_sign.true))
 
 pub returns : goal.returns
 returns c =

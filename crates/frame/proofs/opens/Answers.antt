@@ -1,34 +1,17 @@
--- `frame::opens` meets its contract: a part of another length is no opening; else its tests are those of `opening_parts`, in order.
-use mathlib.Core.Path.{sym}
-use native.Mathlib.Omega.{arith}
-use borrow.Author.Tests.{eq-eqb, ne_eqb, not-true, not-false}
-use Rattle.frame.proofs.Same.{lengths_differ}
-use Rattle.frame.proofs.Literal.{length_opening, opening_parts}
+-- `frame::opens` meets its contract: between r and a quote the hashes are asked. Assumes nothing.
+use Rattle.std.proofs.Common.{sym, ◌∙◌, arith}
+use Rattle.utf8.specs.ChoiceLaws.{not_so}
+use Rattle.frame.proofs.Literal.{opening_parts, opened}
 use Rattle.frame.proofs.opens.Goals as goal
 
-pub returns-then-part-last : goal.returns-then-part-last
-returns-then-part-last c = sym (lengths_differ _ _ (λ e. omega (arith, length_opening c.args.hashes)))
+pub returns-in-114 : goal.returns-in-114
+returns-in-114 c = c.is_marks.ensures ∙ sym (opening_parts _ _ c.in-114.len_at_least (omega arith) (omega arith))
 
-pub returns-then-part-ne114 : goal.returns-then-part-ne114
-returns-then-part-ne114 c = rw (opening_parts _ _ c.if-part-last.false, ne_eqb _ _ c.if-part-ne114.true)
+pub returns-in_default : goal.returns-in_default
+returns-in_default c = sym (not_so _ (λ t. let p = opened _ _ t in omega (arith, p.long)))
 
-pub all_hashes-requires : goal.all_hashes-requires
-all_hashes-requires c = tt
+pub returns-in_default-2 : goal.returns-in_default-2
+returns-in_default-2 c = sym (not_so _ (λ t. let p = opened _ _ t in omega (arith, p.first, p.last)))
 
-pub returns-then-not-all_hashes : goal.returns-then-not-all_hashes
-returns-then-not-all_hashes c =
-    rw (
-      opening_parts _ _ c.if-part-last.false,
-      eq-eqb _ _ c.if-part-ne114.false,
-      ← c.all_hashes.ensures,
-      not-true c.all_hashes.result c.if-not-all_hashes.true-raw,
-    )
-
-pub returns : goal.returns
-returns c =
-    rw (
-      opening_parts _ _ c.if-part-last.false,
-      eq-eqb _ _ c.if-part-ne114.false,
-      ← c.all_hashes.ensures,
-      not-false c.all_hashes.result c.if-not-all_hashes.false-raw,
-    )
+pub returns-in_default-3 : goal.returns-in_default-3
+returns-in_default-3 c = sym (not_so _ (λ t. let p = opened _ _ t in omega (arith, p.first, p.last)))

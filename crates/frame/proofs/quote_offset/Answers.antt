@@ -1,5 +1,5 @@
 -- `frame::quote_offset` meets its contract: each style has its own case.
 use Rattle.frame.proofs.quote_offset.Goals as goal
 
-pub returns-in-Raw : goal.returns-in-Raw
-returns-in-Raw c = rw c.in-Raw.is
+pub returns-in-Some : goal.returns-in-Some
+returns-in-Some c = rw c.in-Some.is

@@ -1,5 +1,5 @@
 -- What a done call says of its text and lists, and the answer of the call for the joined text. Rests on Texts, and on `laws` of answers.
-use Rattle.std.specs.Prelude.{◌≡◌, refl, Bool, true, false, List, [], ◌∷◌, ◌++◌, ℕ, ◌+◌, ◌-◌, ◌≤◌, eqb, ltb, length, take, drop}
+use Rattle.std.specs.Prelude.{◌≡◌, refl, Bool, true, false, List, [], ◌∷◌, ◌++◌, ℕ, ◌+◌, ◌-◌, ◌≤◌, eqb, ltb, length, take, drop, Option, Some, None}
 use Rattle.std.proofs.Math.Path.{ap}
 use Rattle.std.proofs.Common.{sym, ◌∙◌, arith, le-ltb, ne_eqb, length-append, get_or-append-add}
 use Rattle.std.proofs.lemmas.Bool.{false≢true}
@@ -8,7 +8,6 @@ use Rattle.utf8.specs.Choice.{pick}
 use Rattle.utf8.specs.Table37.{WellFormed}
 use Rattle.frame.specs.Frames.{frame_of, is_literal}
 use Rattle.frame.specs.declared.Mode.{Mode}
-use Rattle.frame.specs.declared.Style.{Style}
 use Rattle.reading.specs.Lists.{pieces, errors, places, lines, counts_of}
 use Rattle.reading.specs.Moves.{moves}
 use Rattle.reading.specs.Wants.{wants}
@@ -70,10 +69,10 @@ unfolding frame_for frame_of
 one_quote t u s w q k e = rw e
 
 -- NO SNIPPET: no argument place and no line
-unsnipped : (t s : List ℕ) (y : Style) (given newline : Bool) → given ≡ false → is_literal t y given s newline ≡ false
+unsnipped : (t s : List ℕ) (y : Option ℕ) (given newline : Bool) → given ≡ false → is_literal t y given s newline ≡ false
 unfolding is_literal
-unsnipped t s Style.Plain given newline e = refl
-unsnipped t s (Style.Raw h) given newline e = rw e
+unsnipped t s None given newline e = refl
+unsnipped t s (Some h) given newline e = rw e
 
 module _ (t s : List ℕ) (q : Request) (m : Mode) (e : q.given ≡ false) where
   no_literal : (frame_for t s q).literal ≡ false

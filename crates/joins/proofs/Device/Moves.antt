@@ -1,15 +1,15 @@
 -- The pieces of elements that stand d bytes on, with numbers k on, are the moved ones. Rests on grammar's Pieces.
-use Rattle.std.specs.Prelude.{◌≡◌, ℕ, ◌+◌}
+use Rattle.std.specs.Prelude.{◌≡◌, ℕ, ◌+◌, Some}
 use Rattle.std.proofs.Math.Path.{refl}
 use Rattle.std.proofs.Common.{ap, arith}
 use mathlib.Core.List.{List, [], ◌∷◌, map}
 use Rattle.placeholder.specs.declared.Place.{Place}
 use Rattle.placeholder.specs.declared.Fill.{Fill}
-use Rattle.placeholder.specs.declared.MaybeSpan.{MaybeSpan}
 use Rattle.reading.specs.declared.Piece.{Piece}
 use Rattle.grammar.specs.Grammar.{Position, next, number, word, Lead, unaligned, aligned, filled, Width, implied, fixed, by_argument, by_name, Precision, undotted, star, dot, Typing, untyped, debug, hex_debug, hex, typed, FormatSpec, SpecText, format_spec, unmodified, modifier, free_text, Tail, bare, colon, Inside, Element, run, opened, closed, placeholder, written_width}
 use Rattle.grammar.specs.Pieces.{wide, size, bytes, end_of, tail_at, width_at, precision_at, type_at, past_precision, past_spec, past_tail, past_position, past, place_of, type_text, spanned, present, fill_of, count_of, width_span, precision_of, precision_span, type_span, format_at, spec_at, after_place, argument_at, piece_at, pieces_of}
 use Rattle.joins.specs.Joins.{moved_range, moved_span, moved_maybe, moved_fill, moved_place, moved_count, moved_spec, moved_argument, moved}
+use Rattle.placeholder.specs.Filling.{filling}
 
 -- NUMBERS
 past_precision_lem : (n k : ℕ) (x : Precision) → past_precision (n + k) x ≡ past_precision n x + k
@@ -50,7 +50,7 @@ module _ (q d k : ℕ) where
       rw (u, v)
 
   present_moved : (a b x y : ℕ) → x ≡ a + d → y ≡ b + d → present q x y ≡ moved_maybe d k (present q a b)
-  present_moved a b x y h i = ap MaybeSpan.Present (span_moved a b x y h i)
+  present_moved a b x y h i = ap Some (span_moved a b x y h i)
 
   -- PARTS, at a place x that is p moved
   module _ (p x : ℕ) (h : x ≡ p + d) where
@@ -62,7 +62,7 @@ module _ (q d k : ℕ) where
     fill_moved : (y : Lead) → fill_of q x y ≡ moved_fill d k (fill_of q p y)
     fill_moved unaligned = refl
     fill_moved (aligned a) = refl
-    fill_moved (filled c a) = ap (Fill.Present c) (span_moved p (p + wide c) x (x + wide c) h (omega (arith, h)))
+    fill_moved (filled c a) = ap (filling c) (span_moved p (p + wide c) x (x + wide c) h (omega (arith, h)))
 
     count_moved : (y : Width) → count_of q x y ≡ moved_count d k (count_of q p y)
     count_moved implied = refl

@@ -1,18 +1,18 @@
--- `letters::is_continue` meets its contract: below 0x80 the byte tells; what the ranges of frequent letters have is a start, so a continuation; else the
--- table is asked. Assumes nothing.
-use mathlib.Core.Path.{sym, ◌∙◌}
-use Rattle.letters.specs.QuestionLaws.{start_continues}
+-- `letters::is_continue` meets its contract: below 0x80 the byte tells, and else the table, which has the numbers of `continue`. Assumes nothing.
+use Rattle.std.proofs.Common.{sym, ◌∙◌}
+use Rattle.letters.specs.Table.{ascending}
 use Rattle.letters.specs.AsciiLaws.{ascii_continue_lem}
+use Rattle.letters.specs.Continue.{continue}
+use Rattle.letters.specs.Questions.{is_continue}
 use Rattle.letters.proofs.is_continue.Goals as goal
 
 pub returns-then-c-lt128 : goal.returns-then-c-lt128
 returns-then-c-lt128 c = c.ascii_continue.ensures ∙ sym (ascii_continue_lem _ c.if-c-lt128.true)
 
-pub returns-then-is_frequent : goal.returns-then-is_frequent
-returns-then-is_frequent c = sym (start_continues _ (c.is_frequent.ensures c.if-is_frequent.true))
+pub in_table-requires : goal.in_table-requires
+unfolding ascending
+in_table-requires c = tt
 
-pub returns-then-in_script : goal.returns-then-in_script
-returns-then-in_script c = sym (start_continues _ (c.in_script.ensures c.if-in_script.true))
-
-pub returns : goal.returns
-returns c = c.in_continue.ensures
+pub returns-else-in_script : goal.returns-else-in_script
+unfolding is_continue continue
+returns-else-in_script c = c.in_table.ensures

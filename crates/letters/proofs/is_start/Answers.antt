@@ -1,17 +1,18 @@
--- `letters::is_start` meets its contract: below 0x80 the byte tells; what the ranges of frequent letters have is a start; else the
--- table is asked. Assumes nothing.
-use mathlib.Core.Path.{sym, ◌∙◌}
+-- `letters::is_start` meets its contract: below 0x80 the byte tells, and else the table, which has the numbers of `start`. Assumes nothing.
+use Rattle.std.proofs.Common.{sym, ◌∙◌}
+use Rattle.letters.specs.Table.{ascending}
 use Rattle.letters.specs.AsciiLaws.{ascii_start_lem}
+use Rattle.letters.specs.Start.{start}
+use Rattle.letters.specs.Questions.{is_start}
 use Rattle.letters.proofs.is_start.Goals as goal
 
 pub returns-then-c-lt128 : goal.returns-then-c-lt128
 returns-then-c-lt128 c = c.ascii_start.ensures ∙ sym (ascii_start_lem _ c.if-c-lt128.true)
 
-pub returns-then-is_frequent : goal.returns-then-is_frequent
-returns-then-is_frequent c = sym (c.is_frequent.ensures c.if-is_frequent.true)
+pub in_table-requires : goal.in_table-requires
+unfolding ascending
+in_table-requires c = tt
 
-pub returns-then-in_script : goal.returns-then-in_script
-returns-then-in_script c = sym (c.in_script.ensures c.if-in_script.true)
-
-pub returns : goal.returns
-returns c = c.in_start.ensures
+pub returns-else-in_script : goal.returns-else-in_script
+unfolding is_start start
+returns-else-in_script c = c.in_table.ensures

@@ -1,14 +1,12 @@
 -- `letters::space_end` meets its contract: an ASCII character above the space is no whitespace; else the run is asked. Assumes nothing.
-use mathlib.Core.Path.{sym}
-use Rattle.letters.specs.Questions.{is_space}
-use Rattle.utf8.specs.CharLaws.{ascii_stop}
+use Rattle.std.proofs.Common.{sym, arith, rules}
 use Rattle.letters.specs.AsciiLaws.{above_space}
+use Rattle.letters.specs.Questions.{is_space}
+use Rattle.letters.proofs.Stops.{stop_at}
 use Rattle.letters.proofs.space_end.Goals as goal
 
-pub returns-then-b-lt128 : goal.returns-then-b-lt128
-returns-then-b-lt128 c =
-    let a = c.args in
-    sym (ascii_stop is_space a.text.now a.at c.if-at-text.true c.if-b-lt128.true (above_space _ c.if-b-gt32.true c.if-b-lt128.true))
+pub returns-then-matches : goal.returns-then-matches
+returns-then-matches c = sym (stop_at is_space c.args.text.now c.args.at (omega arith) (λ h. above_space _ (omega arith) (omega arith)))
 
 pub returns : goal.returns
-returns c = c.run_end.ensures
+returns c = c.run_end.ensures is_space (λ x b _ k. search rules)

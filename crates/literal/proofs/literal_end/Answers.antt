@@ -7,4 +7,4 @@ use Rattle.literal.proofs.literal_end.Goals as goal
 
 pub returns : goal.returns
 unfolding text_end
-returns c = ap place (c.brace_before.ensures.value (omega (arith, c.brace_before.ensures.result_value.1, c.if-i-text.false)))
+returns c = ap place (c.brace_before.ensures.found (omega (arith, c.brace_before.ensures.same_end.1, c.if-i-text.false)))

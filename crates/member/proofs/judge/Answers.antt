@@ -7,16 +7,14 @@ use Rattle.member.proofs.judge.Goals as goal
 pub returns-then-is_other : goal.returns-then-is_other
 returns-then-is_other c = other_mode _ _ _ (sym c.is_other.ensures ∙ c.if-is_other.true)
 
-pub returns-then-answer-ne0 : goal.returns-then-answer-ne0
-returns-then-answer-ne0 c =
-    is_refused _ _ _ (not_other _ (sym c.is_other.ensures ∙ c.if-is_other.false))
-    c.opened-first.ensures c.if-answer-ne0.true
-
 pub checked-requires : goal.checked-requires
-checked-requires c = opened_small _ _ _ c.opened-first.ensures c.if-answer-ne0.false
+checked-requires c = opened_small _ _ _ (rw c.in-Ok.is at c.opened.ensures)
 
-pub returns : goal.returns
-returns c =
-    c.checked.ensures
-    ∙ is_open _ _ _ (not_other _ (sym c.is_other.ensures ∙ c.if-is_other.false))
-    c.opened-first.ensures c.if-answer-ne0.false
+pub returns-in-Ok : goal.returns-in-Ok
+returns-in-Ok c =
+    c.checked.ensures ∙ is_open _ _ _ (not_other _ (sym c.is_other.ensures ∙ c.if-is_other.false)) (rw c.in-Ok.is at c.opened.ensures)
+
+pub returns-in-Err : goal.returns-in-Err
+returns-in-Err c =
+    let x = rw c.in-Err.is at c.opened.ensures in
+    rw (c.from.ensures, c.place.ensures) (is_refused _ _ _ (not_other _ (sym c.is_other.ensures ∙ c.if-is_other.false)) x)

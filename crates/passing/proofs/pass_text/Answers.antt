@@ -1,11 +1,7 @@
 -- `passing::pass_text` meets its contract: the byte there, and the one behind it, say where the run starts.
 use mathlib.Core.Path.{sym, ◌∙◌}
-use Rattle.passing.proofs.Passings.{not_on, stays_text}
 use Rattle.passing.proofs.Stepping.{brace_doubled, no_brace, step_literal, step_doubled}
 use Rattle.passing.proofs.pass_text.Goals as goal
-
-pub returns-then-byte-b : goal.returns-then-byte-b
-returns-then-byte-b c = stays_text _ _ _ _ (not_on c.stay.ensures)
 
 pub pass_literal-requires : goal.pass_literal-requires
 pass_literal-requires c =

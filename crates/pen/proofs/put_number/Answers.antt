@@ -17,47 +17,42 @@ returns-then-n-lt10 c =
     let n = c.args.n in
     rw (digits_one n c.if-n-lt10.true, ← c.digit-d.ensures) c.put_byte.ensures
 
-pub put_two-requires : goal.put_two-requires
-put_two-requires c =
+pub put_all-requires : goal.put_all-requires
+put_all-requires c =
     let n = c.args.n in
-    omega (arith, c.requires, ap length (digits_two n c.if-n-lt10.false c.if-n-lt100.true))
+    (omega arith, omega (arith, c.requires, ap length (digits_two n c.if-n-lt10.false c.if-n-lt100.true)))
 
 pub returns-then-n-lt100 : goal.returns-then-n-lt100
 returns-then-n-lt100 c =
     let n = c.args.n in
-    rw (digits_two n c.if-n-lt10.false c.if-n-lt100.true, ← c.digit-d.ensures, ← c.digit-c.ensures) c.put_two.ensures
+    rw (digits_two n c.if-n-lt10.false c.if-n-lt100.true, ← c.digit-d.ensures, ← c.digit-c.ensures) c.put_all.ensures
 
-pub put_three-requires : goal.put_three-requires
-put_three-requires c =
+pub put_all-requires-then-n-lt1000 : goal.put_all-requires-then-n-lt1000
+put_all-requires-then-n-lt1000 c =
     let n = c.args.n in
-    omega (arith, c.requires, ap length (digits_three n c.if-n-lt100.false c.if-n-lt1000.true))
+    (omega arith, omega (arith, c.requires, ap length (digits_three n c.if-n-lt100.false c.if-n-lt1000.true)))
 
 pub returns-then-n-lt1000 : goal.returns-then-n-lt1000
 returns-then-n-lt1000 c =
     let n = c.args.n in
     rw (digits_three n c.if-n-lt100.false c.if-n-lt1000.true, ← c.digit-d.ensures, ← c.digit-c.ensures, ← c.digit-b.ensures)
-    c.put_three.ensures
+    c.put_all-then-n-lt1000.ensures
 
-pub put_four-requires : goal.put_four-requires
-put_four-requires c =
+pub put_all-requires-then-n-lt10000 : goal.put_all-requires-then-n-lt10000
+put_all-requires-then-n-lt10000 c =
     let n = c.args.n in
-    omega (arith, c.requires, ap length (digits_four n c.if-n-lt1000.false c.if-n-lt10000.true))
+    (omega arith, omega (arith, c.requires, ap length (digits_four n c.if-n-lt1000.false c.if-n-lt10000.true)))
 
 pub returns-then-n-lt10000 : goal.returns-then-n-lt10000
 returns-then-n-lt10000 c =
     let n = c.args.n in
     rw (digits_four n c.if-n-lt1000.false c.if-n-lt10000.true, ← c.digit-d.ensures, ← c.digit-c.ensures, ← c.digit-b.ensures, ← c.digit-a.ensures)
-    c.put_four.ensures
+    c.put_all-then-n-lt10000.ensures
 
-pub put_byte-k-requires : goal.put_byte-k-requires
-put_byte-k-requires c =
+pub put_all-requires-2 : goal.put_all-requires-2
+put_all-requires-2 c =
     let n = c.args.n in
-    omega (arith, c.requires, ap length (digits_five n c.if-n-lt10000.false))
-
-pub put_four-requires-2 : goal.put_four-requires-2
-put_four-requires-2 c =
-    let n = c.args.n in
-    omega (arith, c.requires, c.put_byte-k.ensures.place, ap length (digits_five n c.if-n-lt10000.false))
+    (omega arith, omega (arith, c.requires, ap length (digits_five n c.if-n-lt10000.false)))
 
 pub returns : goal.returns
 returns c =
@@ -68,6 +63,6 @@ returns c =
       ← c.digit-c.ensures,
       ← c.digit-b.ensures,
       ← c.digit-a.ensures,
-      ← c.digit.ensures,
+      ← c.digit-first.ensures,
     )
-    (laid_on (_ ∷ []) _ c.put_byte-k.ensures c.put_four-2.ensures)
+    c.put_all-2.ensures

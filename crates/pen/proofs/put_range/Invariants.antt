@@ -6,7 +6,5 @@ use Rattle.pen.proofs.put_range.Given as goal
 
 abbrev pub invariant-loop-i : goal.invariant-loop-i
 invariant-loop-i l =
-    Left l.initial.out l.at (take (l.end - l.initial.i) (drop l.initial.i l.text)) l.out l.k (take (l.end - l.i) (drop l.i l.text))
-
-abbrev pub decreases-loop-i : goal.decreases-loop-i
-decreases-loop-i l = l.end - l.i
+    let all = l.fn.range.end.0 - l.fn.range.start.0 in
+    Left l.initial.out l.at (take all (drop l.fn.range.start.0 l.text)) l.out l.k (take (l.fn.range.end.0 - l.i) (drop l.i l.text))

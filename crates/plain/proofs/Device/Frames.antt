@@ -1,5 +1,5 @@
 -- What pieces say does not go by the frame. Rests on Said and unique's AnyFrame.
-use Rattle.std.specs.Prelude.{◌≡◌, refl, List, [], ◌∷◌, ℕ}
+use Rattle.std.specs.Prelude.{◌≡◌, refl, List, [], ◌∷◌, ℕ, Option, Some, None}
 use Rattle.std.proofs.Common.{ap, sym, ◌∙◌}
 use Rattle.frame.specs.declared.Frame.{Frame}
 use Rattle.frame.specs.declared.Mode.{Mode}
@@ -12,9 +12,9 @@ use Rattle.unique.specs.Device.AnyFrame.{pieces_any}
 use Rattle.plain.specs.Said.{said_fill, said_count, said_piece, said}
 
 module _ (t : List ℕ) where
-  fill_spanless : (x : Fill) → said_fill t (N.fill x) ≡ said_fill t x
-  fill_spanless Fill.Absent = refl
-  fill_spanless (Fill.Present c s) = refl
+  fill_spanless : (x : Option Fill) → said_fill t (N.fill x) ≡ said_fill t x
+  fill_spanless None = refl
+  fill_spanless (Some f) = refl
 
   count_spanless : (x : Count) → said_count t (N.count x) ≡ said_count t x
   count_spanless Count.Implied = refl

@@ -2,12 +2,12 @@
 use mathlib.Core.Path.{sym, ◌∙◌}
 use native.Mathlib.Omega.{arith}
 use Rattle.quick.proofs.Bytes.{room_past}
-use Rattle.quick.proofs.Parts.{precision_unknown, precision_none, precision_star, precision_width, precision_dot}
+use Rattle.quick.proofs.Parts.{precision_none, precision_star, precision_width, precision_dot}
 use Rattle.quick.proofs.any_precision.Goals as goal
 
 pub returns-then-byte-ne46 : goal.returns-then-byte-ne46
 returns-then-byte-ne46 c =
-    rw (c.kept.ensures, c.nothing.ensures) (precision_none (λ q. c.if-byte-ne46.true (c.byte.ensures ∙ q)) c.requires.within)
+    rw (c.kept.ensures, c.no_count.ensures) (precision_none (λ q. c.if-byte-ne46.true (c.byte.ensures ∙ q)) c.requires.within)
 
 pub returns-then-byte-eq42 : goal.returns-then-byte-eq42
 returns-then-byte-eq42 c =
@@ -18,19 +18,17 @@ pub word_at-word-requires : goal.word_at-word-requires
 word_at-word-requires c =
     room_past c.requires (sym c.byte.ensures ∙ c.if-byte-ne46.false) (omega arith)
 
-pub width-count-requires : goal.width-count-requires
-width-count-requires c =
+pub width-requires : goal.width-requires
+width-requires c =
     (room_past c.requires (sym c.byte.ensures ∙ c.if-byte-ne46.false) (omega arith), c.word_at-word.ensures.ends)
 
-pub returns-then-count : goal.returns-then-count
-returns-then-count c = rw (c.kept-then-count.ensures, c.untold.ensures) (precision_unknown c.requires.within)
-
-pub returns-then-count-ne0 : goal.returns-then-count-ne0
-returns-then-count-ne0 c =
-    rw c.kept-then-count-ne0.ensures
-    (precision_width (sym c.byte.ensures ∙ c.if-byte-ne46.false) (λ q. c.if-byte-eq42.false (c.byte-2.ensures ∙ q)) c.width-count.ensures c.if-count.false (λ _. c.if-count-ne0.true))
+pub returns-then-not-is_nothing : goal.returns-then-not-is_nothing
+returns-then-not-is_nothing c =
+    rw c.kept-then-not-is_nothing.ensures
+    (precision_width (sym c.byte.ensures ∙ c.if-byte-ne46.false) (λ q. c.if-byte-eq42.false (c.byte-2.ensures ∙ q)) c.in_ok-count.ensures c.if-count.false
+    (sym c.is_nothing.ensures ∙ c.if-not-is_nothing.true))
 
 pub returns : goal.returns
 returns c =
     rw (c.given_back.ensures, c.plain-2.ensures)
-    (precision_dot (sym c.byte.ensures ∙ c.if-byte-ne46.false) (λ q. c.if-byte-eq42.false (c.byte-2.ensures ∙ q)) c.width-count.ensures c.if-count.false c.if-count-ne0.false)
+    (precision_dot (sym c.byte.ensures ∙ c.if-byte-ne46.false) (λ q. c.if-byte-eq42.false (c.byte-2.ensures ∙ q)) c.in_ok-count.ensures c.if-count.false (sym c.is_nothing.ensures ∙ c.if-not-is_nothing.false))

@@ -5,19 +5,19 @@ use mathlib.Core.Path.{◌≡◌, sym, ◌∙◌, ap}
 use Rattle.utf8.specs.Choice.{pick}
 use Rattle.placeholder.specs.declared.Hex.{Hex}
 use Rattle.quick.specs.PartsTold.{sign_byte}
-use Rattle.quick.proofs.Parts.{type_sign, type_hex}
+use Rattle.quick.proofs.Parts.{type_signed, type_hex}
 use Rattle.quick.proofs.any_sign_type.Goals.{then-b-eq120, else-b-eq120}
 use Rattle.quick.proofs.any_sign_type.Goals as goal
 
 pub returns-then-b-eq63 : goal.returns-then-b-eq63
 returns-then-b-eq63 c =
     let p = c.requires in
-    rw c.sign_type.ensures (type_sign (ap sign_byte (sym p.1) ∙ p.2))
+    rw c.sign_type.ensures (type_signed _ _ (ap sign_byte (sym p.1) ∙ p.2))
 
 pub returns-then-byte-ne63 : goal.returns-then-byte-ne63
 returns-then-byte-ne63 c =
     let p = c.requires in
-    rw c.sign_type-then-byte-ne63.ensures (type_sign (ap sign_byte (sym p.1) ∙ p.2))
+    rw c.sign_type-then-byte-ne63.ensures (type_signed _ _ (ap sign_byte (sym p.1) ∙ p.2))
 
 pub returns : goal.returns
 unfolding pick

@@ -1,8 +1,7 @@
 -- `quick::ascii_end` meets its contract. The invariant: the run of continuations from `i` ends where the run from `at`
--- does, since each turn passes a continuation, and has as many characters more. The measure is what is left of the text.
-use mathlib.Core.Path.{refl, sym, ◌∙◌}
+-- does, since each turn passes a continuation, and has as many characters more.
+use mathlib.Core.Path.{◌≡◌, refl, sym, ◌∙◌}
 use native.Mathlib.Omega.{arith}
-use borrow.Author.Tests.{not-true, not-false}
 use Rattle.letters.specs.Questions.{is_continue}
 use Rattle.utf8.specs.CharLaws.{ascii_more}
 use Rattle.letters.specs.AsciiLaws.{ascii_continue_lem}
@@ -16,19 +15,22 @@ loop-i-init c = (refl, omega arith, λ e h. refl)
 pub returns-then-not-continues : goal.returns-then-not-continues
 returns-then-not-continues c =
     let inv = c.loop-i.invariant in
-    record { run = inv.0; ends = λ _. sym c.continues.ensures ∙ not-true _ c.if-not-continues.true-raw; on = inv.1; chars = inv.2 }
+    record { run = inv.0; ends = λ _. sym c.continues.ensures ∙ c.if-not-continues.true; on = omega arith; chars = inv.2 }
 
 pub loop-i-preserved : goal.loop-i-preserved
 loop-i-preserved c =
-    let y = sym c.continues.ensures ∙ not-false _ c.if-not-continues.false-raw in
+    let y = sym c.continues.ensures ∙ c.if-not-continues.false in
     let b = continue_low _ y in
     let t = c.args.text.now in
     let i = c.loop-i.i in
     let inv = c.loop-i.invariant in (
       ascii_more is_continue t i c.loop-i-test.true b (ascii_continue_lem _ b ∙ y) ∙ inv.0,
-      omega (arith, inv.1),
+      omega arith,
       λ e h. ascii_one t i c.loop-i-test.true b e h ∙ inv.2 e (omega (arith, h)),
     )
 
 pub returns : goal.returns
-returns c = let inv = c.loop-i.invariant in record { run = inv.0; ends = λ h. absurd (omega arith); on = inv.1; chars = inv.2 }
+returns c =
+    let inv = c.loop-i.invariant in
+    let e : c.max.result ≡ c.loop-i.i = omega (arith, inv.1) in
+    record { run = rw e inv.0; ends = λ h. absurd (omega arith); on = omega arith; chars = rw e inv.2 }

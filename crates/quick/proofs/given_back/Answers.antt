@@ -1,18 +1,19 @@
 -- `quick::given_back` meets its contract: nothing of a word that is a width, and of another each character.
-use borrow.Author.Tests.{eq-eqb, ne_eqb}
+use mathlib.Core.Path.{sym, ◌∙◌}
 use native.Mathlib.Omega.{arith}
 use Rattle.utf8.specs.Choice.{pick}
 use Rattle.quick.specs.Tellings.{back_of}
 use Rattle.quick.proofs.given_back.Goals as goal
 
-pub returns-then-width-ne0 : goal.returns-then-width-ne0
+pub returns-then-not-is_nothing : goal.returns-then-not-is_nothing
 unfolding back_of pick
-returns-then-width-ne0 c = rw (ne_eqb _ _ c.if-width-ne0.true)
+returns-then-not-is_nothing c = rw (sym c.is_nothing.ensures ∙ c.if-not-is_nothing.true)
 
 pub returns-then-word : goal.returns-then-word
 unfolding back_of pick
-returns-then-word c = rw (eq-eqb _ _ c.if-width-ne0.false) (omega (arith, c.requires.chars c.if-word.true, c.requires.on))
+returns-then-word c =
+    rw (sym c.is_nothing.ensures ∙ c.if-not-is_nothing.false) (omega (arith, c.requires.chars c.if-word.true, c.requires.on))
 
 pub returns : goal.returns
 unfolding back_of pick
-returns c = rw (eq-eqb _ _ c.if-width-ne0.false) (rw c.whole.ensures at c.chars_between.ensures.0)
+returns c = rw (sym c.is_nothing.ensures ∙ c.if-not-is_nothing.false) (rw c.whole.ensures at c.chars_between.ensures.0)

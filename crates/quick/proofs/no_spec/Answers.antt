@@ -6,8 +6,8 @@ use Rattle.quick.proofs.no_spec.Goals as goal
 pub returns : goal.returns
 returns c =
     record {
-      wide = c.nothing.ensures;
-      precise = c.nothing-2.ensures;
+      wide = c.no_count.ensures;
+      precise = c.no_count-2.ensures;
       typed = ap (λ (k : TypeTold). k.blank) c.no_type.ensures;
       ends = ap (λ (k : TypeTold). k.end) c.no_type.ensures;
       given = refl;

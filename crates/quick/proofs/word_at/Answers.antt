@@ -1,6 +1,5 @@
 -- `quick::word_at` meets its contract: an ASCII byte is its own character, and 0, which stands past the end too, starts no word and continues none;
 -- where another letter follows, the word goes on from there.
-use borrow.Author.Tests.{not-true, not-false}
 use mathlib.Core.Path.{◌≡◌, sym, ◌∙◌, ap}
 use mathlib.Core.Bool.{true≢false}
 use native.Mathlib.Omega.{arith}
@@ -16,7 +15,7 @@ use Rattle.quick.proofs.word_at.Goals as goal
 pub returns-then-not-ascii_start : goal.returns-then-not-ascii_start
 returns-then-not-ascii_start c =
     record {
-      ends = sym (word_none _ _ c.byte-b.ensures c.if-b-lt128.true (sym c.ascii_start.ensures ∙ not-true _ c.if-not-ascii_start.true-raw));
+      ends = sym (word_none _ _ c.byte-b.ensures c.if-b-lt128.true (sym c.ascii_start.ensures ∙ c.if-not-ascii_start.true));
       on = omega arith;
       chars = λ _. omega (arith, no_chars c.args.text.now c.args.at);
     }
@@ -24,7 +23,7 @@ returns-then-not-ascii_start c =
 pub returns-then-byte-lt128 : goal.returns-then-byte-lt128
 returns-then-byte-lt128 c =
     let e = c.ascii_end-known.ensures in
-    let start = sym c.ascii_start.ensures ∙ not-false _ c.if-not-ascii_start.false-raw in
+    let start = sym c.ascii_start.ensures ∙ c.if-not-ascii_start.false in
     let low = c.if-b-lt128.true in
     record {
       ends = sym (continue_stop _ _ c.byte.ensures c.if-byte-lt128.true e.ends) ∙ e.run ∙ sym (word_start _ _ c.byte-b.ensures low start);

@@ -2,12 +2,12 @@
 use Rattle.scan.specs.Counts.{count_read}
 use Rattle.scan.proofs.count_at.Goals as goal
 
-pub returns-in-Given : goal.returns-in-Given
+pub returns-in-Some : goal.returns-in-Some
 unfolding count_read
-returns-in-Given c =
-    rw (← c.integer-read.ensures, c.in-Given.is, ← c.number_count.ensures)
+returns-in-Some c =
+    rw (← c.integer-read.ensures, c.in-Some.is, ← c.number_count.ensures)
 
-pub returns-in-Nothing : goal.returns-in-Nothing
+pub returns-in-None : goal.returns-in-None
 unfolding count_read
-returns-in-Nothing c =
-    rw (← c.integer-read.ensures, c.in-Nothing.is, ← c.name_count.ensures)
+returns-in-None c =
+    rw (← c.integer-read.ensures, c.in-None.is, ← c.name_count.ensures)

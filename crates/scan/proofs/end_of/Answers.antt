@@ -5,18 +5,18 @@ use Rattle.scan.specs.Ends.{end_of}
 use Rattle.scan.proofs.end_of.Goals as goal
 
 pub overflow_add-end : goal.overflow_add-end
-overflow_add-end c = let p = peeked _ _ (sym c.peek.ensures ∙ c.in-Char.is) in omega arith
+overflow_add-end c = let p = peeked _ _ (sym c.peek.ensures ∙ c.in-Some.is) in omega arith
 
 pub to_snippet-requires : goal.to_snippet-requires
 to_snippet-requires c =
     let s = c.requires in
-    let p = peeked _ _ (sym c.peek.ensures ∙ c.in-Char.is) in
+    let p = peeked _ _ (sym c.peek.ensures ∙ c.in-Some.is) in
     (omega arith, s.quote)
 
-pub returns-in-Char : goal.returns-in-Char
+pub returns-in-Some : goal.returns-in-Some
 unfolding end_of
-returns-in-Char c = rw (← c.peek.ensures, c.in-Char.is, ← c.to_snippet.ensures)
+returns-in-Some c = rw (← c.peek.ensures, c.in-Some.is, ← c.to_snippet.ensures)
 
-pub returns-in-End : goal.returns-in-End
+pub returns-in-None : goal.returns-in-None
 unfolding end_of
-returns-in-End c = rw (← c.peek.ensures, c.in-End.is)
+returns-in-None c = rw (← c.peek.ensures, c.in-None.is)

@@ -6,8 +6,8 @@ use Rattle.scan.specs.Wrapping.{noted}
 use Rattle.scan.proofs.Numbers.{rest}
 use Rattle.scan.proofs.integer.Given as goal
 
-abbrev pub invariant-loop-code : goal.invariant-loop-code
-invariant-loop-code l = (n : ℕ) × (l.kept ≡ noted n) × (rest l.text n l.at l.i ≡ number_read l.text l.at)
+abbrev pub invariant-loop-seen : goal.invariant-loop-seen
+invariant-loop-seen l = (n : ℕ) × (l.kept ≡ noted n) × (rest l.text n l.at l.i ≡ number_read l.text l.at)
 
-abbrev pub decreases-loop-code : goal.decreases-loop-code
-decreases-loop-code l = length l.text - l.i
+abbrev pub decreases-loop-seen : goal.decreases-loop-seen
+decreases-loop-seen l = length l.text - l.i

@@ -5,12 +5,12 @@ use Rattle.scan.specs.Characters.{past_at}
 use Rattle.scan.proofs.past.Goals as goal
 
 pub overflow_add-result : goal.overflow_add-result
-overflow_add-result c = let p = peeked _ _ (sym c.peek.ensures ∙ c.in-Char.is) in omega arith
+overflow_add-result c = let p = peeked _ _ (sym c.peek.ensures ∙ c.in-Some.is) in omega arith
 
-pub returns-in-Char : goal.returns-in-Char
+pub returns-in-Some : goal.returns-in-Some
 unfolding past_at
-returns-in-Char c = rw (← c.peek.ensures, c.in-Char.is)
+returns-in-Some c = rw (← c.peek.ensures, c.in-Some.is)
 
-pub returns-in-End : goal.returns-in-End
+pub returns-in-None : goal.returns-in-None
 unfolding past_at
-returns-in-End c = rw (← c.peek.ensures, c.in-End.is, add-zero)
+returns-in-None c = rw (← c.peek.ensures, c.in-None.is, add-zero)

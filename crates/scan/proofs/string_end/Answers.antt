@@ -14,11 +14,11 @@ returns-then-text-i c =
 
 pub returns-then-near-i : goal.returns-then-near-i
 unfolding text_end
-returns-then-near-i c = ap place (c.brace_before-near.ensures.value c.if-near-i.true ∙ c.after_eight.ensures.0)
+returns-then-near-i c = ap place (c.brace_before-near.ensures.found c.if-near-i.true ∙ c.after_eight.ensures.0)
 
 pub returns : goal.returns
 unfolding text_end
 returns c =
     let near = c.brace_before-near.ensures in
     let far = c.plain_blocks-from.ensures in
-    ap place (c.brace_before.ensures.value (omega arith) ∙ far.0 ∙ near.result_value.0 ∙ c.after_eight.ensures.0)
+    ap place (c.brace_before.ensures.found (omega arith) ∙ far.0 ∙ near.same_end.0 ∙ c.after_eight.ensures.0)

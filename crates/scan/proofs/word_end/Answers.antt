@@ -33,7 +33,7 @@ returns-then-byte-ge-BEYOND_ASCII c =
     let end = c.ascii_continue_end-end.result in
     c.word_from-then-byte-ge-BEYOND_ASCII.ensures
     ∙ pick_elim (λ (p : TextPlace). p ≡ word_end t at) (ltb at.0 end)
-    (λ _. ap place (c.ascii_continue_end-end.ensures.result_value ∙ sym (word_start t at.0 c.byte-b.ensures (omega (arith, c.if-b-ge128.false)) y)))
+    (λ _. ap place (c.ascii_continue_end-end.ensures.same_end ∙ sym (word_start t at.0 c.byte-b.ensures (omega (arith, c.if-b-ge128.false)) y)))
     (λ _. refl)
 
 pub returns : goal.returns
@@ -42,4 +42,4 @@ returns c =
     let y = sym c.ascii_start.ensures ∙ not-false _ c.if-not-ascii_start.false-raw in
     let e = c.ascii_continue_end-end.ensures in
     ap place
-    (sym (continue_stop a.text.now _ c.byte.ensures (omega (arith, c.if-byte-ge-BEYOND_ASCII.false)) e.result_value_2) ∙ e.result_value ∙ sym (word_start a.text.now a.at.0 c.byte-b.ensures (omega (arith, c.if-b-ge128.false)) y))
+    (sym (continue_stop a.text.now _ c.byte.ensures (omega (arith, c.if-byte-ge-BEYOND_ASCII.false)) e.stops) ∙ e.same_end ∙ sym (word_start a.text.now a.at.0 c.byte-b.ensures (omega (arith, c.if-b-ge128.false)) y))

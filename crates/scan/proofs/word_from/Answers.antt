@@ -12,18 +12,18 @@ returns-then-i-known c = rw (lt-ltb _ _ c.if-i-known.true, ← c.continue_end.en
 
 pub overflow_add-i : goal.overflow_add-i
 overflow_add-i c =
-    let p = peeked _ _ (sym c.peek.ensures ∙ c.in-Char.is) in omega arith
+    let p = peeked _ _ (sym c.peek.ensures ∙ c.in-Some.is) in omega arith
 
 pub returns-then-is_start : goal.returns-then-is_start
 unfolding word_from word_end pick
 returns-then-is_start c =
-    rw (le-ltb _ _ c.if-i-known.false, ← c.peek.ensures, c.in-Char.is, ← c.is_start.ensures, c.if-is_start.true, ← c.continue_end-then-is_start.ensures)
+    rw (le-ltb _ _ c.if-i-known.false, ← c.peek.ensures, c.in-Some.is, ← c.is_start.ensures, c.if-is_start.true, ← c.continue_end-then-is_start.ensures)
 
 pub returns-else-is_start : goal.returns-else-is_start
 unfolding word_from word_end pick
 returns-else-is_start c =
-    rw (le-ltb _ _ c.if-i-known.false, ← c.peek.ensures, c.in-Char.is, ← c.is_start.ensures, c.if-is_start.false)
+    rw (le-ltb _ _ c.if-i-known.false, ← c.peek.ensures, c.in-Some.is, ← c.is_start.ensures, c.if-is_start.false)
 
-pub returns-in-End : goal.returns-in-End
+pub returns-in-None : goal.returns-in-None
 unfolding word_from word_end pick
-returns-in-End c = rw (le-ltb _ _ c.if-i-known.false, ← c.peek.ensures, c.in-End.is)
+returns-in-None c = rw (le-ltb _ _ c.if-i-known.false, ← c.peek.ensures, c.in-None.is)

@@ -11,18 +11,10 @@ returns-then-after-eq2 g c =
       next = omega (arith, c.two.ensures.0);
     }
 
-pub returns-then-more : goal.returns-then-more
-returns-then-more g c =
-    let short = take_short c.args.size c.part.new.buffer (omega (arith, c.if-got-size.false)) c.in_ok-got.ensures.0 c.requires.0 in
-    record {
-      grown = grown_own c.args.totals.now (take c.args.size c.part.new.buffer) c.requires.1 short c.add_text.auto.totals c.add_text.ensures;
-      next = c.number.ensures;
-    }
-
 pub returns : goal.returns
 returns g c =
     let short = take_short c.args.size c.part.new.buffer (omega (arith, c.if-got-size.false)) c.in_ok-got.ensures.0 c.requires.0 in
     record {
       grown = grown_own c.args.totals.now (take c.args.size c.part.new.buffer) c.requires.1 short c.add_text.auto.totals c.add_text.ensures;
-      next = omega arith;
+      next = c.next_size.ensures;
     }

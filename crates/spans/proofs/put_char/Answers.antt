@@ -15,10 +15,10 @@ returns-then-code-eq10 c =
     newline_put a.frame a.run (ch a.code a.at a.width) a.out.now (eq-eqb _ _ c.if-code-eq10.true)
     c.to_snippet-end.ensures c.to_snippet-past.ensures c.put_span.ensures
 
-pub cut_line-start-requires : goal.cut_line-start-requires
-cut_line-start-requires c = (c.requires.0, c.requires.1)
+pub cut_line-requires : goal.cut_line-requires
+cut_line-requires c = (c.requires.0, c.requires.1)
 
 pub returns : goal.returns
 returns c =
     let a = c.args in
-    other_put a.frame a.run (ch a.code a.at a.width) a.out.now (ne_eqb _ _ c.if-code-eq10.false) c.cut_line-start.ensures
+    other_put a.frame a.run (ch a.code a.at a.width) a.out.now (ne_eqb _ _ c.if-code-eq10.false) c.cut_line.ensures

@@ -21,7 +21,7 @@ unfolding chars_in
 put_char-on-requires c =
     let t = c.args.text.now in
     let l = c.loop-i in
-    let seen = sym c.peek.ensures ∙ c.in-Char.is in
+    let seen = sym c.peek.ensures ∙ c.in-Some.is in
     let p = peeked t l.i seen in (
       omega (arith, p.room, c.requires.0.text),
       c.requires.0.quote,
@@ -32,13 +32,13 @@ put_char-on-requires c =
 pub overflow_add-i : goal.overflow_add-i
 overflow_add-i c =
     let l = c.loop-i in
-    let p = peeked c.args.text.now l.i (sym c.peek.ensures ∙ c.in-Char.is) in
+    let p = peeked c.args.text.now l.i (sym c.peek.ensures ∙ c.in-Some.is) in
     omega (arith, p.room, c.requires.0.text)
 
 pub loop-i-smaller : goal.loop-i-smaller
 loop-i-smaller c =
     let l = c.loop-i in
-    let p = peeked c.args.text.now l.i (sym c.peek.ensures ∙ c.in-Char.is) in
+    let p = peeked c.args.text.now l.i (sym c.peek.ensures ∙ c.in-Some.is) in
     omega (arith, p.some, c.loop-i-test.true)
 
 pub loop-i-preserved : goal.loop-i-preserved
@@ -46,16 +46,16 @@ unfolding chars_in
 loop-i-preserved c =
     let t = c.args.text.now in
     let l = c.loop-i in
-    let seen = sym c.peek.ensures ∙ c.in-Char.is in
+    let seen = sym c.peek.ensures ∙ c.in-Some.is in
     lining_on l.invariant (ch _ l.i _ ∷ []) (before c.args.part.end.0 (chars_from t (l.i + _)))
     (before_more t c.args.part.end.0 l.i c.loop-i-test.true seen) c.requires.1 c.put_char-on.ensures
 
-pub returns-in-End : goal.returns-in-End
+pub returns-in_default : goal.returns-in_default
 unfolding chars_in
-returns-in-End c =
+returns-in_default c =
     let a = c.args in
     let l = c.loop-i in
-    lining_done l.invariant (before_end a.text.now a.part.end.0 l.i (sym c.peek.ensures ∙ c.in-End.is))
+    lining_done l.invariant (before_end a.text.now a.part.end.0 l.i (sym c.peek.ensures ∙ c.in_default.is))
 
 pub returns : goal.returns
 unfolding chars_in

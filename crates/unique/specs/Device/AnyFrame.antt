@@ -1,13 +1,11 @@
 -- The frame changes spans alone: part by part, what two frames give is the same but for spans. Rests on grammar's Spanless.
-use Rattle.std.specs.Prelude.{◌≡◌, List, [], ◌∷◌, map, Bool, length}
+use Rattle.std.specs.Prelude.{◌≡◌, List, [], ◌∷◌, map, Bool, length, Option, Some, None}
 use Rattle.std.proofs.Math.Path.{refl, ap, sym}
 use Rattle.std.proofs.Common.{◌∙◌}
 use Rattle.std.proofs.Math.Bool.{true, false}
 use Prim.Native.Nat.{ℕ, zero, suc, ◌+◌}
 use Rattle.utf8.specs.Choice.{pick}
 use Rattle.utf8.specs.Utf8.{peek_at}
-use Rattle.utf8.specs.declared.Seen.{Seen}
-use Rattle.utf8.specs.declared.Seen.TheVariants.{Char, End}
 use Rattle.frame.specs.Places.{range_of}
 use Rattle.frame.specs.declared.TextPlace.{TextPlace}
 use Rattle.frame.specs.declared.Span.{Span}
@@ -19,7 +17,6 @@ use Rattle.scan.specs.Counts.{name_count, count_after, count_read}
 use Rattle.scan.specs.declared.Consumed.{Consumed}
 use Rattle.scan.specs.declared.Count.{Count}
 use Rattle.scan.specs.declared.CountRead.{CountRead}
-use Rattle.scan.specs.declared.Number.{Number}
 use Rattle.placeholder.specs.Parts.{is_implied, fill_seen, fill_read, align_read, sign_read, plain_width, width_read, after_dot, precision_read}
 use Rattle.placeholder.specs.Types.{word_type, type_read}
 use Rattle.placeholder.specs.Format.{format_read}
@@ -32,7 +29,6 @@ use Rattle.placeholder.specs.declared.Spec.{Spec}
 use Rattle.placeholder.specs.declared.position.PlaceRead.{PlaceRead}
 use Rattle.placeholder.specs.declared.Argument.{Argument}
 use Rattle.placeholder.specs.declared.between.ArgumentRead.{ArgumentRead}
-use Rattle.placeholder.specs.declared.MaybeSpan.{MaybeSpan}
 use Rattle.placeholder.specs.declared.format.FillRead.{FillRead}
 use Rattle.placeholder.specs.declared.format.WidthRead.{WidthRead}
 use Rattle.placeholder.specs.declared.format.PrecisionRead.{PrecisionRead}
@@ -54,11 +50,12 @@ use Rattle.reading.specs.Lists.{gather, pieces_of, pieces, listed, records, find
 use Rattle.reading.specs.declared.Fault.{Fault}
 use Rattle.reading.specs.declared.State.{State}
 use Rattle.reading.specs.declared.Step.{Step}
-use Rattle.reading.specs.declared.Onward.{Onward}
 use Rattle.reading.specs.declared.Piece.{Piece}
 use Rattle.reading.specs.declared.ErrorRecord.{ErrorRecord}
 use Rattle.laws.specs.RecordLaws.{record_parts}
 use Rattle.grammar.specs.Spanless as S
+use Rattle.scan.specs.declared.Numeral.{Numeral}
+use Rattle.utf8.specs.declared.Char.{Char}
 
 -- a choice by the same test
 pick_same : {A B : Type 0} (h : A → B) (b : Bool) {x y z w : A} → h x ≡ h z → h y ≡ h w → h (pick b x y) ≡ h (pick b z w)
@@ -109,21 +106,21 @@ module _ (t : List ℕ) (f g : Frame) where
   unfolding count_read name_count
   count_any at = go (number_read t at).number
     where
-      go : (n : Number) → count_of (count_after t f at (number_read t at) n) ≡ count_of (count_after t g at (number_read t at) n)
-      go (Number.Given n) = refl
-      go Number.Nothing = pick_same count_of _ refl (pick_same count_of _ refl refl)
+      go : (n : Option Numeral) → count_of (count_after t f at (number_read t at) n) ≡ count_of (count_after t g at (number_read t at) n)
+      go (Some n) = refl
+      go None = pick_same count_of _ refl (pick_same count_of _ refl refl)
 
   fill_any : (at : TextPlace) → fill_of (fill_read t f at) ≡ fill_of (fill_read t g at)
   unfolding fill_read
   fill_any at = go (peek_at t at.0)
     where
-      go : (n : Seen) → fill_of (fill_seen t f at n) ≡ fill_of (fill_seen t g at n)
-      go End = refl
-      go (Char c w) = pick_same fill_of _ refl refl
+      go : (n : Option Char) → fill_of (fill_seen t f at n) ≡ fill_of (fill_seen t g at n)
+      go None = refl
+      go (Some seen) = pick_same fill_of _ refl refl
 
   -- a width has a span where it is not implied
   maybe_pick : (b : Bool) (s : Span) →
-      S.maybe (pick b MaybeSpan.Absent (MaybeSpan.Present s)) ≡ pick b MaybeSpan.Absent (MaybeSpan.Present S.anywhere)
+      S.maybe (pick b None (Some s)) ≡ pick b None (Some S.anywhere)
   unfolding pick
   maybe_pick true s = refl
   maybe_pick false s = refl
@@ -223,13 +220,13 @@ module _ (t : List ℕ) (f g : Frame) where
       ap (λ sp. joined at to po sp (resolved po.found sp.next)) (spec_any m to n)
 
 -- A NAME AND NOTHING ELSE, told without spans
-fill_none : (x : Fill) → no_fill x ≡ no_fill (S.fill x)
-fill_none Fill.Absent = refl
-fill_none (Fill.Present c s) = refl
+fill_none : (x : Option Fill) → no_fill x ≡ no_fill (S.fill x)
+fill_none None = refl
+fill_none (Some f) = refl
 
-maybe_none : (x : MaybeSpan) → no_span x ≡ no_span (S.maybe x)
-maybe_none MaybeSpan.Absent = refl
-maybe_none (MaybeSpan.Present s) = refl
+maybe_none : (x : Option Span) → no_span x ≡ no_span (S.maybe x)
+maybe_none None = refl
+maybe_none (Some s) = refl
 
 identifier_same : (p : Place) (x : Spec) → is_identifier p x ≡ is_identifier p (S.spec x)
 unfolding is_identifier is_default no_marks no_counts
@@ -244,9 +241,9 @@ identifier_same p x =
     )
 
 -- and what says why a closing brace should stand
-because_same : (x : Fill) (from brace : TextPlace) → because x from brace ≡ because (S.fill x) from brace
-because_same Fill.Absent from brace = refl
-because_same (Fill.Present c s) from brace = refl
+because_same : (x : Option Fill) (from brace : TextPlace) → because x from brace ≡ because (S.fill x) from brace
+because_same None from brace = refl
+because_same (Some f) from brace = refl
 
 -- a placeholder and a step, without spans
 abbrev placeholder_of : PlaceholderRead → PlaceholderRead
@@ -343,15 +340,15 @@ onward_same : (s : State) (x : Step) → onward s x ≡ onward s (step_of x)
 onward_same s Step.End = refl
 onward_same s (Step.Stop p) = refl
 onward_same s (Step.Literal r) = refl
-onward_same s (Step.Placeholder p) = ap (λ (n : ℕ). Onward.To (state_of p.at p.next (larger s.arguments n))) (argument_wants_lem p.argument)
+onward_same s (Step.Placeholder p) = ap (λ (n : ℕ). Some (state_of p.at p.next (larger s.arguments n))) (argument_wants_lem p.argument)
 
 follow_any : (f g : State → List Step) → ((s : State) → map step_of (f s) ≡ map step_of (g s)) → (s : State) (x y : Step) → step_of x ≡ step_of y →
     map step_of (x ∷ follow f (onward s x)) ≡ map step_of (y ∷ follow g (onward s y))
 follow_any f g h s x y e = cc (e, more (onward s x), blind step_of (onward s) (onward_same s) x y e)
   where
-    more : (o : Onward) → map step_of (follow f o) ≡ map step_of (follow g o)
-    more Onward.Over = refl
-    more (Onward.To s) = h s
+    more : (o : Option State) → map step_of (follow f o) ≡ map step_of (follow g o)
+    more None = refl
+    more (Some s) = h s
 
 steps_any : (t : List ℕ) (f g : Frame) (m : Mode) (k : ℕ) (s : State) → map step_of (steps_from k t f m s) ≡ map step_of (steps_from k t g m s)
 unfolding steps_from

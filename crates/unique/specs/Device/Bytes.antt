@@ -1,18 +1,17 @@
 -- The codes of a valid text: those that its bytes are the UTF-8 of stand in it, and there are such. Rests on Stands and on `utf8`'s laws of
 -- UTF-8.
-use Rattle.std.specs.Prelude.{◌≡◌, refl, List, [], ◌∷◌, ◌++◌, ℕ, ◌+◌, ◌-◌, ◌*◌, ◌/◌, ◌%◌, ◌≤◌, ◌<◌, ltb, length, drop}
+use Rattle.std.specs.Prelude.{◌≡◌, refl, List, [], ◌∷◌, ◌++◌, ℕ, ◌+◌, ◌-◌, ◌*◌, ◌/◌, ◌%◌, ◌≤◌, ◌<◌, ltb, length, drop, Some}
 use Rattle.std.proofs.Common.{ap, sym, ◌∙◌, arith, ltb-true, ltb-false, ne_eqb, length-append, length-drop, drop-drop}
 use Rattle.std.proofs.Math.Seq.{drop-append_seam}
 use Rattle.utf8.specs.Choice.{pick, within}
 use Rattle.utf8.specs.ChoiceLaws.{pick_elim}
-use Rattle.utf8.specs.Utf8.{low, high, seq, code2, code3, code4, sequence_of, sequence_at, char_of, decode, peek_at, valid_prefix}
+use Rattle.utf8.specs.Utf8.{low, high, seq, code2, code3, code4, sequence_of, sequence_at, char_of, decode, peek_at, valid_prefix, char}
 use Rattle.utf8.specs.DecodeLaws.{decode_sequence}
 use Rattle.utf8.specs.Utf8Laws.{sequence1, valid_end, valid_all, valid_on, valid_end_lem}
 use Rattle.utf8.specs.Chars.{Ch, chars_from}
 use Rattle.utf8.specs.Encode.{encode, encode_all}
 use Rattle.utf8.specs.EncodeLaws.{encoded}
 use Rattle.utf8.specs.declared.Sequence.{Sequence}
-use Rattle.utf8.specs.declared.Seen.TheVariants.{Char}
 use Rattle.grammar.specs.Grammar.{utf8}
 use Rattle.grammar.specs.Pieces.{wide}
 use Rattle.unique.specs.Device.Stands.{wide_some, Stands}
@@ -97,7 +96,7 @@ unfolding wide
 code_drop c s = drop-append_seam (encode c) s
 
 -- a sequence that is there is a character
-char_there : (c w : ℕ) → 0 < w → char_of (seq c w) ≡ Char c w
+char_there : (c w : ℕ) → 0 < w → char_of (seq c w) ≡ Some (char c w)
 unfolding char_of pick
 char_there c w h = rw (ne_eqb w 0 (λ e. omega arith))
 
@@ -111,7 +110,7 @@ stands_from t (c ∷ cs) i e l v =
     let len : length t - i ≡ w + length (utf8 cs) = sym (length-drop i t) ∙ (ap length e ∙ code_length c (utf8 cs)) in
     let n : (sequence_at (drop i t)).width ≡ 0 → ⊥ = λ z. omega (arith, valid_end_lem t i z) in
     let s : sequence_at (drop i t) ≡ seq c w = rw e (code_sequence c (utf8 cs) (rw e at n)) in
-    let p : decode (drop i t) ≡ Char c w = decode_sequence t i (omega arith) ∙ (ap char_of s ∙ char_there c w some) in
+    let p : decode (drop i t) ≡ Some (char c w) = decode_sequence t i (omega arith) ∙ (ap char_of s ∙ char_there c w some) in
     let r : drop (i + w) t ≡ utf8 cs = sym (drop-drop w i t) ∙ (ap (drop w) e ∙ code_drop c (utf8 cs)) in
     let k : valid_end t (i + w) ≡ length t = valid_on t i w (ap (λ (x : Sequence). x.width) s) (λ z. omega arith) ∙ v in
     (p, stands_from t cs (i + w) r (omega arith) k)

@@ -1,6 +1,6 @@
 -- The bytes are covered: each step starts where the one before it ended, and passes something; and kind 1 tells a stop before the end. Rests on
 -- grammar's Cover and on Alone, and on the laws by which the leaves and the placeholder go forward and stay within the text.
-use Rattle.std.specs.Prelude.{◌≡◌, refl, ◌≢◌, ◌⊎◌, List, ◌∷◌, ◌++◌, true, ltb, eqb, length}
+use Rattle.std.specs.Prelude.{◌≡◌, refl, ◌≢◌, ◌⊎◌, List, ◌∷◌, ◌++◌, true, ltb, eqb, length, Option}
 use Rattle.std.proofs.Math.Path.{ap}
 use Rattle.std.proofs.Common.{sym, ◌∙◌, arith}
 use Rattle.std.proofs.Math.Logic.{inl, inr, ⊎_elim}
@@ -12,7 +12,6 @@ use Rattle.utf8.specs.Choice.{pick}
 use Rattle.utf8.specs.ChoiceLaws.{pick_elim}
 use Rattle.utf8.specs.Chars.{run_end}
 use Rattle.utf8.specs.CharLaws.{end_past, past_end, run_end_lem, byte_more, byte_stop}
-use Rattle.utf8.specs.declared.Seen.{Seen}
 use Rattle.frame.specs.Places.{place, range_of}
 use Rattle.frame.specs.declared.TextPlace.{TextPlace}
 use Rattle.frame.specs.declared.TextRange.{TextRange}
@@ -35,6 +34,7 @@ use Rattle.grammar.specs.Cover.{byte_at, Begins, View, Tiles, Lone, Covered}
 use Rattle.unique.specs.Device.Runs.{case_b}
 use Rattle.unique.specs.Device.Classes.{to_plain, to_brace}
 use Rattle.unique.specs.Device.Alone.{Others, others_append, wrong_others, others_errors, Told, told_after, told_errors, placeholder_others}
+use Rattle.utf8.specs.declared.Char.{Char}
 
 -- A BYTE, where an ASCII character is and where it is not
 module _ (t : List ℕ) (at : TextPlace) (c : ℕ) (l : c < 0x80) where
@@ -165,7 +165,7 @@ module _ (t : List ℕ) (f : Frame) (m : Mode) where
   plain_seen : (at : TextPlace) → at.0 < length t → is_at t at 0x7B ≡ false → is_at t at 0x7D ≡ false → at.0 < (text_end t at).0
   unfolding is_at is_plain pick
   plain_seen at i h k =
-      seen_elim (λ (n : Seen). sees 0x7B n ≡ false → sees 0x7D n ≡ false → at.0 < (text_end t at).0) t at.0
+      seen_elim (λ (n : Option Char). sees 0x7B n ≡ false → sees 0x7D n ≡ false → at.0 < (text_end t at).0) t at.0
       (λ e h k. absurd (omega (arith, end_past t at.0 e)))
       (λ c w e h k. text_some t at e (cc)) h k
 

@@ -1,5 +1,5 @@
 -- The parts of a Format spec, where codes stand: what the reading finds is what the parser takes. Rests on Words.
-use Rattle.std.specs.Prelude.{◌≡◌, Bool, ℕ, ◌+◌, ◌<◌, length}
+use Rattle.std.specs.Prelude.{◌≡◌, Bool, ℕ, ◌+◌, ◌<◌, length, Some, None}
 use Rattle.std.proofs.Math.Path.{refl, ap, ap₂}
 use Rattle.std.proofs.Common.{◌∙◌}
 use mathlib.Core.List.{List, [], ◌∷◌}
@@ -19,9 +19,9 @@ use Rattle.scan.specs.Counts.{count_read}
 use Rattle.scan.specs.declared.Count.{Count}
 use Rattle.scan.specs.declared.CountRead.{CountRead}
 use Rattle.placeholder.specs.Parts.{is_implied, is_align, fill_seen, fill_read, align_read, sign_read, plain_width, width_read, after_dot, precision_read}
+use Rattle.placeholder.specs.Filling.{filling}
 use Rattle.placeholder.specs.declared.Align.{Align}
 use Rattle.placeholder.specs.declared.Fill.{Fill}
-use Rattle.placeholder.specs.declared.MaybeSpan.{MaybeSpan}
 use Rattle.placeholder.specs.declared.format.FillRead.{FillRead}
 use Rattle.placeholder.specs.declared.format.AlignRead.{AlignRead}
 use Rattle.placeholder.specs.declared.format.SignRead.{SignRead}
@@ -126,7 +126,7 @@ module _ (t : List ℕ) where
       pub align : al.align ≡ alignmentOf g.val
 
     -- no fill
-    bare_same : (at : TextPlace) (cs : List ℕ) → Stands t at.0 cs → fill_read t f at ≡ record { fill = Fill.Absent; at = at } →
+    bare_same : (at : TextPlace) (cs : List ℕ) → Stands t at.0 cs → fill_read t f at ≡ record { fill = None; at = at } →
         LeadSame at (align_of cs) (fill_read t f at) (align_read t (fill_read t f at).at)
     unfolding align_of
     bare_same at [] h e = rw e (rw (align_none at [] h refl) (record { stands = h; fill = refl; align = refl }))
@@ -135,13 +135,13 @@ module _ (t : List ℕ) where
         (λ k. rw (e, k, align_of) (rw (align_side at c cs h k) (record { stands = rw (side_ascii c k) at h.1; fill = refl; align = refl })))
         (λ k. rw (e, k, align_of) (rw (align_none at (c ∷ cs) h k) (record { stands = h; fill = refl; align = refl })))
 
-    fill_end : (at : TextPlace) → Stands t at.0 [] → fill_read t f at ≡ record { fill = Fill.Absent; at = at }
+    fill_end : (at : TextPlace) → Stands t at.0 [] → fill_read t f at ≡ record { fill = None; at = at }
     unfolding fill_read
     fill_end at h = ap (fill_seen t f at) (stands_end t at.0 h)
 
     fill_char : (at : TextPlace) (c : ℕ) (cs : List ℕ) → Stands t at.0 (c ∷ cs) →
         fill_read t f at
-        ≡ pick (side_first cs) (record { fill = Fill.Present c (span_across t f at at); at = place (at.0 + wide c) }) (record { fill = Fill.Absent; at = at })
+        ≡ pick (side_first cs) (record { fill = filling c (span_across t f at at); at = place (at.0 + wide c) }) (record { fill = None; at = at })
     unfolding fill_read
     fill_char at c cs h = ap (fill_seen t f at) h.0 ∙ rw (is_align_lem (place (at.0 + wide c)) cs h.1)
 
@@ -153,9 +153,9 @@ module _ (t : List ℕ) where
         case_b (is_side d)
         (λ k.
         let p : TextPlace = place (at.0 + wide c) in
-        let e : fill_read t f at ≡ record { fill = Fill.Present c (span_across t f at at); at = p } = fill_char at c (d ∷ v) h ∙ rw k in
+        let e : fill_read t f at ≡ record { fill = filling c (span_across t f at at); at = p } = fill_char at c (d ∷ v) h ∙ rw k in
         rw (e, k, lead_of)
-        (rw (align_side p d v h.1 k) (record { stands = rw (side_ascii d k) at h.1.1; fill = ap (Fill.Present c) (across t f at at (omega arith) h.0); align = refl })))
+        (rw (align_side p d v h.1 k) (record { stands = rw (side_ascii d k) at h.1.1; fill = ap (filling c) (across t f at at (omega arith) h.0); align = refl })))
         (λ k. rw (k, lead_of) (bare_same at (c ∷ d ∷ v) h (fill_char at c (d ∷ v) h ∙ rw k)))
 
   -- FLAG `0` AND WIDTH
@@ -169,7 +169,7 @@ module _ (t : List ℕ) where
 
     -- a width that stands has a span
     width_span_lem : (p end : TextPlace) (w : Width) → end.0 ≡ p.0 + size (written_width w []) → end.0 < length t →
-        pick (is_implied (count_of f.quote p.0 w)) MaybeSpan.Absent (MaybeSpan.Present (span_between t f p end)) ≡ width_span f.quote p.0 w
+        pick (is_implied (count_of f.quote p.0 w)) None (Some (span_between t f p end)) ≡ width_span f.quote p.0 w
     unfolding pick
     width_span_lem p end implied e l = refl
     width_span_lem p end (fixed d ds) e l = between_present t f p end _ e (omega arith) l
@@ -192,7 +192,7 @@ module _ (t : List ℕ) where
           found = λ k. s.found k ∙ ap (λ i. count_of f.quote i w) e;
           span =
               λ k l.
-              ap (λ (n : Count). pick (is_implied n) MaybeSpan.Absent (MaybeSpan.Present (span_between t f p r.at))) (s.found k)
+              ap (λ (n : Count). pick (is_implied n) None (Some (span_between t f p r.at))) (s.found k)
               ∙ (width_span_lem p r.at w j l ∙ ap (λ i. width_span f.quote i w) e);
         }
 
@@ -219,7 +219,7 @@ module _ (t : List ℕ) where
         let k : Stands t (at.0 + 1) (d ∷ v) = past_ascii t at.0 0x30 0x30 (d ∷ v) (omega arith) h refl in
         let q : Stands t (at.0 + 1 + 1) v = past_ascii t (at.0 + 1) 0x24 d v (omega arith) k l in
         rw (consume_yes t at 0x30 (0x30 ∷ d ∷ v) h refl, consume_yes t p 0x24 (d ∷ v) k l, eqb-true d 0x24 l, zero_dollar v)
-        (record { stands = q; clean = refl; zero = refl; found = λ z. refl; span = λ z y. ap MaybeSpan.Present (two_across at p d v refl k l) })
+        (record { stands = q; clean = refl; zero = refl; found = λ z. refl; span = λ z y. ap Some (two_across at p d v refl k l) })
 
     flag_width : (at : TextPlace) (cs : List ℕ) → Stands t at.0 (0x30 ∷ cs) → first 0x24 cs ≡ false →
         WidthSame at (got true cs true) (width_of cs) (width_read t f at)

@@ -1,6 +1,6 @@
 -- A Format spec, and the spec of each mode, where codes stand: what the reading finds is what the parser takes.
 -- Rests on Parts and Types, and on Made and Splits for where each part stands.
-use Rattle.std.specs.Prelude.{◌≡◌, true, ◌&&◌, length}
+use Rattle.std.specs.Prelude.{◌≡◌, true, ◌&&◌, length, Option}
 use Rattle.std.proofs.Math.Path.{refl, ap}
 use Rattle.std.proofs.Common.{◌∙◌}
 use mathlib.Core.List.{List, [], ◌∷◌}
@@ -21,7 +21,6 @@ use Rattle.placeholder.specs.Types.{word_type, type_read}
 use Rattle.placeholder.specs.Format.{format_read}
 use Rattle.placeholder.specs.Specs.{type_only, diagnostic_type, after_colon}
 use Rattle.placeholder.specs.declared.Hex.{Hex}
-use Rattle.placeholder.specs.declared.MaybeSpan.{MaybeSpan}
 use Rattle.placeholder.specs.declared.format.FillRead.{FillRead}
 use Rattle.placeholder.specs.declared.format.AlignRead.{AlignRead}
 use Rattle.placeholder.specs.declared.format.SignRead.{SignRead}
@@ -40,6 +39,7 @@ use Rattle.unique.specs.Device.Spans.{between_present}
 use Rattle.unique.specs.Device.Words.{flawless}
 use Rattle.unique.specs.Device.Parts.{lead_same, sign_same, hash_same, width_same, precision_same}
 use Rattle.unique.specs.Device.Types.{type_none_lem, type_some, typing_same}
+use Rattle.frame.specs.declared.Span.{Span}
 
 -- before the flag `0`, and from there to the precision
 abbrev before : FormatSpec → List ℕ → List ℕ
@@ -134,7 +134,7 @@ module _ (t : List ℕ) (f : Frame) where
     pub found : g.ok ≡ true → r.at.0 < length t → r.spec ≡ spec_at f.quote colon.0 n g.val
 
   -- a spec that has a type and nothing else
-  pub only : (x : TypeRead) (n : ℕ) (r : TextRange) (s : MaybeSpan) → x.hex ≡ Hex.Absent → x.typetext ≡ r → x.span ≡ s → (type_only x n).spec ≡ typeRecord r s
+  pub only : (x : TypeRead) (n : ℕ) (r : TextRange) (s : Option Span) → x.hex ≡ Hex.Absent → x.typetext ≡ r → x.span ≡ s → (type_only x n).spec ≡ typeRecord r s
   only x n r s h k l = rw (h, k, l)
 
   -- the word or nothing after a colon

@@ -1,16 +1,16 @@
 -- Where codes stand in a text, and what the leaves of the reading come to there: a character, whitespace, literal text.
 -- Rests on the sizes of grammar's Pieces, and on the laws of characters and runs of `utf8`.
-use Rattle.std.specs.Prelude.{◌≡◌, refl, Bool, true, false, ℕ, ◌+◌, ◌<◌, eqb, ltb, length}
+use Rattle.std.specs.Prelude.{◌≡◌, refl, Bool, true, false, ℕ, ◌+◌, ◌<◌, eqb, ltb, length, Some, None}
 use Rattle.std.proofs.Math.Path.{ap}
 use Rattle.std.proofs.Common.{sym, ◌∙◌, add-zero, add_assoc, arith, eqb-true, lt-ltb}
 use mathlib.Core.List.{List, [], ◌∷◌, ◌++◌}
 use Rattle.utf8.specs.Choice.{pick}
 use Rattle.utf8.specs.ChoiceLaws.{pick_elim}
 use Rattle.utf8.specs.Encode.{encode}
-use Rattle.utf8.specs.Utf8.{peek_at}
+use Rattle.utf8.specs.Utf8.{peek_at, char}
+use Rattle.utf8.specs.DecodeLaws.{same_code}
 use Rattle.utf8.specs.Chars.{Ch, ch, chars_from, take_while, bytes, run_end}
 use Rattle.utf8.specs.CharLaws.{peeked, past_end, ended}
-use Rattle.utf8.specs.declared.Seen.TheVariants.{Char, End}
 use Rattle.frame.specs.Places.{place}
 use Rattle.frame.specs.declared.TextPlace.{TextPlace}
 use Rattle.letters.specs.Questions.{is_space}
@@ -39,7 +39,7 @@ mark_wide c k l e = ap wide (eqb-true c k e) ∙ ascii k l
 -- the codes stand in a text from place i to its end
 abbrev pub Stands : List ℕ → ℕ → List ℕ → Type 0
 Stands t i [] = i ≡ length t
-Stands t i (c ∷ cs) = (peek_at t i ≡ Char c (wide c)) × Stands t (i + wide c) cs
+Stands t i (c ∷ cs) = (peek_at t i ≡ Some (char c (wide c))) × Stands t (i + wide c) cs
 
 pub size_append : (r u : List ℕ) → size (r ++ u) ≡ size r + size u
 unfolding size
@@ -77,7 +77,7 @@ stands_one t i [] [] h k = refl
 stands_one t i [] (d ∷ ds) h k = let p = peeked t i k.0 in absurd (omega arith)
 stands_one t i (c ∷ cs) [] h k = let p = peeked t i h.0 in absurd (omega arith)
 stands_one t i (c ∷ cs) (d ∷ ds) h k =
-    let q : c ≡ d = cc in
+    let q : c ≡ d = same_code (sym h.0 ∙ k.0) in
     ap (λ x. x ∷ cs) q ∙ ap (λ l. d ∷ l) (stands_one t (i + wide d) cs ds (rw q at h.1) k.1)
 
 -- AS CHARACTERS
@@ -143,7 +143,7 @@ module _ (t : List ℕ) (at : TextPlace) (cs : List ℕ) (h : Stands t at.0 cs) 
   spaces_none s = rw (run_none is_space t at.0 cs h s) h
 
 -- A CHARACTER
-pub stands_end : (t : List ℕ) (i : ℕ) → Stands t i [] → peek_at t i ≡ End
+pub stands_end : (t : List ℕ) (i : ℕ) → Stands t i [] → peek_at t i ≡ None
 stands_end t i h = past_end t i (omega arith)
 
 module _ (t : List ℕ) (at : TextPlace) where

@@ -1,6 +1,6 @@
 -- A step of the reading, where codes stand, beside the parser's: the same element and record, the end, or something wrong in both.
 -- Rests on Arguments.
-use Rattle.std.specs.Prelude.{◌≡◌, true, false, ◌&&◌, eqb, length}
+use Rattle.std.specs.Prelude.{◌≡◌, true, false, ◌&&◌, eqb, length, Some}
 use Rattle.std.proofs.Math.Path.{refl, ap, ap₂, sym}
 use Rattle.std.proofs.Common.{◌∙◌, true≢false, arith}
 use mathlib.Core.List.{List, [], ◌∷◌, ◌++◌, append-nil}
@@ -31,7 +31,6 @@ use Rattle.reading.specs.Lists.{pieces_of}
 use Rattle.reading.specs.declared.Fault.{Fault}
 use Rattle.reading.specs.declared.State.{State}
 use Rattle.reading.specs.declared.Step.{Step as ReadStep}
-use Rattle.reading.specs.declared.Onward.{Onward}
 use Rattle.reading.specs.declared.Piece.{Piece}
 use Rattle.grammar.specs.Grammar.{Inside, Element, run, opened, closed, placeholder, written, written_inside}
 use Rattle.grammar.specs.Pieces.{bytes, end_of, tail_at, spanned, argument_at, piece_at, past}
@@ -86,7 +85,7 @@ module _ (t : List ℕ) (f : Frame) (m : Mode) where
   -- what a step comes to that takes an element and leaves codes: its record, where reading goes on, and nothing wrong
   pub record Took (s : State) (e : Element) (u : List ℕ) (x : ReadStep) : Type 0 where
     pub to : State
-    pub goes : onward s x ≡ Onward.To to
+    pub goes : onward s x ≡ Some to
     pub stands : Stands t to.at.0 u
     pub number : to.next ≡ past s.next e
     pub pieces : pieces_of x ≡ piece_at f.quote s.at.0 s.next e ∷ []

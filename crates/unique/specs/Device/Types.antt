@@ -1,5 +1,5 @@
 -- The type of a Format spec, and the words that are a type, where codes stand. Rests on Words.
-use Rattle.std.specs.Prelude.{◌≡◌, Bool, not, eqb, length}
+use Rattle.std.specs.Prelude.{◌≡◌, Bool, not, eqb, length, Option, None}
 use Rattle.std.proofs.Math.Path.{refl}
 use Rattle.std.proofs.Common.{ap, ◌∙◌, arith}
 use mathlib.Core.List.{List, [], ◌∷◌}
@@ -14,7 +14,6 @@ use Rattle.frame.specs.declared.Frame.{Frame}
 use Rattle.scan.specs.declared.Flaw.{Flaw}
 use Rattle.placeholder.specs.Types.{hex_type, is_hex_or_hash, debug_type, word_type, type_read}
 use Rattle.placeholder.specs.declared.Hex.{Hex}
-use Rattle.placeholder.specs.declared.MaybeSpan.{MaybeSpan}
 use Rattle.placeholder.specs.declared.format.TypeRead.{TypeRead}
 use Rattle.grammar.specs.Grammar.{Letter, lower, upper, Typing, untyped, debug}
 use Rattle.grammar.specs.Pieces.{size, bytes, bytes_at, present, letter_of, type_text, type_span, hex_of as hexRecord}
@@ -23,6 +22,7 @@ use Rattle.unique.specs.Device.Parser.{Got, got, ok_word, ok_debug, hex_of, type
 use Rattle.unique.specs.Device.Stands.{Stands, is_at_lem, consume_yes, consume_no, past_ascii}
 use Rattle.unique.specs.Device.Spans.{between_present}
 use Rattle.unique.specs.Device.Words.{flawless, clean_pick, empty, not_empty, past_word, word_none, word_of, word_some}
+use Rattle.frame.specs.declared.Span.{Span}
 
 module _ (t : List ℕ) (f : Frame) where
   pub record TypingSame (at : TextPlace) (g : Got Typing) (r : TypeRead) : Type 0 where
@@ -69,7 +69,7 @@ module _ (t : List ℕ) (f : Frame) where
       record { stands = h; clean = clean_not (is_hex_or_hash t p) (Flaw.AfterDebug at) refl ∙ hex_or_hash p cs h; hex = refl; typetext = refl; span = λ l. refl }
 
   -- a word, or nothing
-  pub record WordSame (range : TextRange) (s : MaybeSpan) (u : List ℕ) (b : Bool) (x : TypeRead) : Type 0 where
+  pub record WordSame (range : TextRange) (s : Option Span) (u : List ℕ) (b : Bool) (x : TypeRead) : Type 0 where
     pub stands : Stands t x.at.0 u
     pub clean : flawless x.flaw ≡ b
     pub hex : x.hex ≡ Hex.Absent
@@ -77,7 +77,7 @@ module _ (t : List ℕ) (f : Frame) where
     pub span : x.at.0 < length t → x.span ≡ s
 
   pub type_none_lem : (at : TextPlace) (cs : List ℕ) → Stands t at.0 cs → Stops is_start cs →
-      WordSame (bytes at.0 at.0) MaybeSpan.Absent cs true (word_type t f at)
+      WordSame (bytes at.0 at.0) None cs true (word_type t f at)
   unfolding word_type pick
   type_none_lem at cs h s = rw (word_none t at cs h s, empty at) (record { stands = h; clean = refl; hex = refl; typetext = refl; span = λ l. refl })
 

@@ -1,6 +1,6 @@
 -- Words, numbers and counts of the reading, where codes stand: what they found, where they stopped, and whether they are clean.
 -- Rests on Stands and Parser.
-use Rattle.std.specs.Prelude.{◌≡◌, Bool, true, false, not, eqb, leb}
+use Rattle.std.specs.Prelude.{◌≡◌, Bool, true, false, not, eqb, leb, Some, None}
 use Rattle.std.proofs.Math.Path.{refl, ap}
 use Rattle.std.proofs.Common.{◌∙◌, arith}
 use mathlib.Core.List.{List, [], ◌∷◌}
@@ -21,7 +21,6 @@ use Rattle.scan.specs.Words.{word_seen, word_end, is_underscore, word_read, is_d
 use Rattle.scan.specs.Counts.{is_empty, counted, number_count, name_after, name_count, count_read}
 use Rattle.scan.specs.declared.Flaw.{Flaw}
 use Rattle.scan.specs.declared.WordRead.{WordRead}
-use Rattle.scan.specs.declared.Number.{Number}
 use Rattle.scan.specs.declared.NumberRead.{NumberRead}
 use Rattle.scan.specs.declared.Numeral.{Numeral}
 use Rattle.scan.specs.declared.Count.{Count}
@@ -136,7 +135,7 @@ large_numeral n r = case_b (leb n 65535) (λ k. rw (within_numeral n k, k)) (λ 
 
 module _ (t : List ℕ) (at : TextPlace) where
   pub number_none : (cs : List ℕ) → Stands t at.0 cs → Stops is_digit cs →
-      number_read t at ≡ record { number = Number.Nothing; digits = range_of at at; flaw = Flaw.Clean }
+      number_read t at ≡ record { number = None; digits = range_of at at; flaw = Flaw.Clean }
   unfolding number_read number_from pick size
   number_none cs h s =
       rw (run_none is_digit t at.0 cs h s, eq-eqb at.0 at.0 refl)
@@ -145,7 +144,7 @@ module _ (t : List ℕ) (at : TextPlace) where
   number_at d ds =
       let end = place (at.0 + size (d ∷ ds)) in
       record {
-        number = Number.Given (numeral (value 0 (d ∷ ds)));
+        number = Some (numeral (value 0 (d ∷ ds)));
         digits = range_of at end;
         flaw = pick (ok_number d ds) Flaw.Clean (Flaw.TooLarge (range_of at end));
       }

@@ -2,7 +2,6 @@
 -- before `stop` begins at `i` or before it. The measure is what is left of the text. Assumes nothing.
 use Prim.Native.Nat.{◌+◌}
 use native.Mathlib.Omega.{arith}
-use borrow.Author.Tests.{not-false}
 use Rattle.utf8.specs.BlockLaws.{ascii_none, ascii_block, ascii_last, ascii_join}
 use Rattle.utf8.proofs.ascii_blocks.Goals as goal
 
@@ -12,26 +11,14 @@ returns-then-byte-ge128 c = ascii_none _ _ _ (omega arith)
 pub loop-i-init : goal.loop-i-init
 loop-i-init c = ascii_none _ _ _ (omega arith)
 
-pub returns-then-not-is_ascii : goal.returns-then-not-is_ascii
-returns-then-not-is_ascii c = c.loop-i.invariant
-
 pub loop-i-preserved : goal.loop-i-preserved
 loop-i-preserved c =
     let t = c.args.text.now in
     let i = c.loop-i.i in
-    ascii_join t _ _ i (i + 32) c.loop-i.invariant (ascii_block t i _ 32 (omega arith) (omega arith) (c.is_ascii.ensures (not-false _ c.if-not-is_ascii.false-raw)))
+    ascii_join t _ _ i (i + 32) c.loop-i.invariant (ascii_block t i _ 32 (omega arith) (omega arith) (c.is_ascii.ensures c.if-not-is_ascii.false))
 
 pub returns-then-is_ascii : goal.returns-then-is_ascii
 returns-then-is_ascii c =
     let a = c.args in
     let i = c.loop-i.i in
     ascii_join a.text.now _ _ i _ c.loop-i.invariant (ascii_last a.text.now i a.stop 32 (omega arith) (omega arith) (omega arith) (omega arith) (c.is_ascii-then-stop-ge32.ensures c.if-is_ascii.true))
-
-pub returns-else-is_ascii : goal.returns-else-is_ascii
-returns-else-is_ascii c = c.loop-i.invariant
-
-pub returns-else-stop-ge32 : goal.returns-else-stop-ge32
-returns-else-stop-ge32 c = c.loop-i.invariant
-
-pub returns-else-i-stop : goal.returns-else-i-stop
-returns-else-i-stop c = c.loop-i.invariant

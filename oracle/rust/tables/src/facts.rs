@@ -26,7 +26,6 @@ pub fn check(table: &Table) -> Result<(), String> {
         (counts_known(table), "has other counts than in Unicode 17.0.0"),
         (ordered(table), "is not ascending, disjoint and maximal"),
         (scalar_values_only(table), "has a range with surrogates or past the last character"),
-        (uncut(table), "has a range that crosses a bound of its parts"),
         (table.word != "space" || is_white_space(table), "is not char::is_whitespace"),
     ];
     match facts.into_iter().find(|(holds, _)| !holds) {
@@ -47,14 +46,6 @@ fn ordered(table: &Table) -> bool {
 
 fn scalar_values_only(table: &Table) -> bool {
     table.ranges.iter().all(|&(low, high)| (low..=high).all(|c| char::from_u32(c).is_some()))
-}
-
-/// Each range lies on one side of each bound.
-fn uncut(table: &Table) -> bool {
-    table
-        .bounds
-        .iter()
-        .all(|bound| table.ranges.iter().all(|(low, high)| bound <= low || high < bound))
 }
 
 /// Membership agrees with the standard library for every scalar value.

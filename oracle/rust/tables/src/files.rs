@@ -1,6 +1,6 @@
 //! The generated files: their places, how they are written, and how their numbers are read back.
 
-use crate::table::{self, Part, Table};
+use crate::table::{self, Table};
 use std::fs;
 use std::path::Path;
 
@@ -38,9 +38,7 @@ pub fn check(root: &Path, tables: &[Table]) -> Result<(), String> {
     for table in tables {
         let numbers = table.numbers();
         let definition = load(root, &definition_file(table))?;
-        for part in table.parts() {
-            agree(&hex_numbers(constant_of(&constants, &part.name)), &part.numbers, CONSTANTS)?;
-        }
+        agree(&hex_numbers(constant_of(&constants, table.constant)), &numbers, CONSTANTS)?;
         agree(&hex_numbers(&definition), &numbers, &definition_file(table))?;
         if table.word != "space" {
             agree(&hex_numbers(constant_of(&stand_in, table.constant)), &numbers, STAND_IN)?;
@@ -57,29 +55,23 @@ fn definition_file(table: &Table) -> String {
     format!("crates/letters/specs/{}.antt", table.file)
 }
 
-/// The three tables as constants of the crate, in the layout that `rt fmt` keeps: as many numbers to a line as 99 columns hold.
+/// The three tables as constants of the crate, in the layout that `rt fmt` keeps.
 fn constants(tables: &[Table]) -> String {
     let mut text = String::from(
         "// The tables of characters, as flat constants. The definitions of the same numbers are in specs/;\n\
          // `oracle/tables` writes both from the compiler's own lexer and checks that they agree.\n",
     );
     for table in tables {
-        text += &format!("\n// {}\n", table.comment);
-        if !table.bounds.is_empty() {
-            text += "// In parts: each has the ranges below the code in its name that no part before it has, and the last the others.\n";
-        }
-        text += &table.parts().iter().map(constant).collect::<Vec<_>>().join("\n");
+        let numbers = table.numbers();
+        text += &format!(
+            "\n// {}\npub static {}: [u32; {}] = [\n{}];\n",
+            table.comment,
+            table.constant,
+            numbers.len(),
+            filled(&numbers)
+        );
     }
     text
-}
-
-fn constant(part: &Part) -> String {
-    format!(
-        "pub const {}: [u32; {}] = [\n{}];\n",
-        part.name,
-        part.numbers.len(),
-        filled(&part.numbers)
-    )
 }
 
 /// Indented lines of numbers, each as long as 99 columns allow, where `rt fmt` breaks them.
@@ -151,9 +143,9 @@ fn lines(numbers: &[u32], width: usize, item: impl Fn(&u32) -> String) -> String
         .collect()
 }
 
-/// The part of a source between the brackets that follow `NAME: [u32; N] = `.
+/// The part of a source between the brackets that follow ` NAME: [u32; N] = `.
 fn constant_of<'a>(source: &'a str, name: &str) -> &'a str {
-    let head = format!("const {name}: [u32; ");
+    let head = format!(" {name}: [u32; ");
     let Some((_, rest)) = source.split_once(&head) else {
         return "";
     };

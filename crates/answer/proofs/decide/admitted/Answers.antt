@@ -5,10 +5,4 @@ use Rattle.answer.proofs.decide.admitted.Goals as goal
 
 pub returns : goal.returns
 unfolding frame_for
-returns c =
-    rw (
-      c.no_counts-counts.ensures,
-      c.mode_of-mode.ensures,
-      c.frame_of-frame.ensures,
-      c.style_of-framed.ensures,
-    ) (record { answer = refl; frame = refl; mode = refl; chars = refl })
+returns c = rw (c.mode_of.ensures, c.frame_of.ensures, c.style_of-style.ensures) (record { frame = refl; mode = refl; chars = refl })

@@ -3,4 +3,4 @@ use Rattle.answer.proofs.Decisions.{fresh_opened}
 use Rattle.answer.proofs.decide.opened.Goals as goal
 
 pub returns : goal.returns
-returns c = fresh_opened _ _ _ c.fresh-asked.ensures c.opened_by.ensures
+returns c = fresh_opened _ _ _ c.fresh.ensures c.opened_by.ensures

@@ -4,10 +4,10 @@ use Rattle.utf8.specs.Choice.{pick}
 use Rattle.closing.specs.Recovery.{gap_at}
 use Rattle.closing.proofs.recover.gap_at.Goals as goal
 
-pub returns-then-i-text : goal.returns-then-i-text
+pub returns-then-at-text : goal.returns-then-at-text
 unfolding pick gap_at
-returns-then-i-text c = rw (lt-ltb _ _ c.if-i-text.true)
+returns-then-at-text c = rw (lt-ltb _ _ c.if-at-text.true)
 
-pub returns : goal.returns
+pub returns-else-at-text : goal.returns-else-at-text
 unfolding pick gap_at
-returns c = rw (le-ltb _ _ c.if-i-text.false)
+returns-else-at-text c = rw (le-ltb _ _ c.if-at-text.false)

@@ -1,6 +1,6 @@
 -- `closing::recover::recover` meets its contract: it is the definition, test by test; two characters remain where the place past
 -- the first is within the text.
-use borrow.Author.Tests.{lt-ltb, le-ltb, not-true, not-false}
+use borrow.Author.Tests.{lt-ltb, le-ltb}
 use Rattle.utf8.specs.Choice.{pick}
 use Rattle.closing.specs.Recovering.{recovering, recover_table}
 use Rattle.closing.proofs.recover.recover.Goals as goal
@@ -33,7 +33,7 @@ returns-then-not-is_silent c =
       c.if-peek_is.false,
       ← c.sign_hint-hint.ensures,
       ← c.is_silent.ensures,
-      not-true c.is_silent.result c.if-not-is_silent.true-raw,
+      c.if-not-is_silent.true,
       ← c.passed_to-then-not-is_silent.ensures,
     )
 
@@ -48,7 +48,7 @@ returns-then-identifier c =
       c.if-peek_is.false,
       ← c.sign_hint-hint.ensures,
       ← c.is_silent.ensures,
-      not-false c.is_silent.result c.if-not-is_silent.false-raw,
+      c.if-not-is_silent.false,
       c.if-identifier.true,
       ← c.read_field.ensures,
     )
@@ -64,7 +64,7 @@ returns c =
       c.if-peek_is.false,
       ← c.sign_hint-hint.ensures,
       ← c.is_silent.ensures,
-      not-false c.is_silent.result c.if-not-is_silent.false-raw,
+      c.if-not-is_silent.false,
       c.if-identifier.false,
       ← c.passed_to-2.ensures,
     )

@@ -6,8 +6,8 @@ use Rattle.closing.specs.OnwardLaws.{recover_given}
 use Rattle.closing.specs.Wholes.{missing_read}
 use Rattle.closing.proofs.whole.missing.Goals as goal
 
-pub record_of-argument-requires : goal.record_of-argument-requires
-record_of-argument-requires c = c.requires.0
+pub record_of-requires : goal.record_of-requires
+record_of-requires c = c.requires.0
 
 -- a field gives back no more than twice the text's bytes
 pub overflow_add-result : goal.overflow_add-result
@@ -26,6 +26,6 @@ returns c =
       ← c.gap_at-gap.ensures,
       ← c.is_identifier-identifier.ensures,
       ← c.recover-on.ensures,
-      ← c.record_of-argument.ensures,
-      ← c.text_taken-taken.ensures,
+      ← c.record_of.ensures,
+      ← c.text_taken.ensures,
     )

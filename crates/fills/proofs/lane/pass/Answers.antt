@@ -4,13 +4,12 @@ use mathlib.Core.Logic.{inr}
 use Rattle.frame.specs.Places.{range_of}
 use Rattle.frame.specs.declared.TextPlace.{TextPlace}
 use Rattle.reading.specs.declared.Step.{Step}
-use Rattle.passing.proofs.Passings.{not_on}
-use Rattle.fills.proofs.Passing.{stopped_none}
+use Rattle.fills.proofs.Passing.{tried_none}
 use Rattle.passing.proofs.Stepping.{step_literal}
 use Rattle.fills.proofs.lane.pass.Goals as goal
 
 pub returns-then-text-i : goal.returns-then-text-i
-returns-then-text-i c = let a = c.args in stopped_none a.text.now a.frame a.mode a.state a.n a.pieces.now (not_on c.stay.ensures)
+returns-then-text-i c = let a = c.args in tried_none a.text.now a.frame a.mode a.state a.n a.pieces.now
 
 pub pass_doubled-requires : goal.pass_doubled-requires
 pass_doubled-requires c =
@@ -18,7 +17,7 @@ pass_doubled-requires c =
     (s.0, s.2, inr (c.if-b-eq125.true, sym c.byte.ensures ∙ c.if-byte-eq125.true))
 
 pub returns-then-b-eq125 : goal.returns-then-b-eq125
-returns-then-b-eq125 c = let a = c.args in stopped_none a.text.now a.frame a.mode a.state a.n a.pieces.now (not_on c.stay-then-b-eq125.ensures)
+returns-then-b-eq125 c = let a = c.args in tried_none a.text.now a.frame a.mode a.state a.n a.pieces.now
 
 pub pass_literal-requires : goal.pass_literal-requires
 pass_literal-requires c =

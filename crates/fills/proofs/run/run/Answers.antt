@@ -1,6 +1,5 @@
 -- `fills::run::run` meets its contract. The invariant: with the pieces and the records of the steps left both lists are as they are to be.
 -- The measure is what is left of the text, since each step passes a byte.
-use borrow.Author.Tests.{not-true, not-false}
 use native.Mathlib.Omega.{arith}
 use Rattle.fills.proofs.Running.{underway_first, underway_on, underway_over, standing_next, lane_room, lane_underway, lane_left, lane_over, back_few, run_later}
 use Rattle.fills.proofs.Stopping.{left_over}
@@ -51,22 +50,22 @@ overflow_add-given-in-loop-frame c =
     let u = lane_underway a.text.now a.frame a.mode a.fronts a.pieces.now a.errors.now c.requires.1 c.requires.0.text c.loop-frame.invariant ran in
     omega (arith, back_few a.text.now a.frame a.mode a.fronts a.pieces.now a.errors.now c.requires.1 c.requires.0.text u, c.write_left-step.ensures.given)
 
-pub returns-then-not-step : goal.returns-then-not-step
-returns-then-not-step c =
+pub returns-in_default : goal.returns-in_default
+returns-in_default c =
     let a = c.args in
     let ran = c.lane_in-stopped.ensures in
     let u = lane_underway a.text.now a.frame a.mode a.fronts a.pieces.now a.errors.now c.requires.1 c.requires.0.text c.loop-frame.invariant ran in
-    underway_over a.text.now a.frame a.mode a.fronts a.pieces.now a.errors.now c.requires.1 u (left_over a.text.now a.frame a.mode _ ran.tried c.write_left-step.ensures) (not-true _ c.if-not-step.true)
+    underway_over a.text.now a.frame a.mode a.fronts a.pieces.now a.errors.now c.requires.1 u (left_over a.text.now a.frame a.mode _ ran.tried c.write_left-step.ensures) c.in_default.is
 
 pub loop-frame-smaller : goal.loop-frame-smaller
 loop-frame-smaller c =
     let a = c.args in
     let ran = c.lane_in-stopped.ensures in
-    run_later a.text.now a.frame a.mode ran.way (left_over a.text.now a.frame a.mode _ ran.tried c.write_left-step.ensures) (not-false _ c.if-not-step.false)
+    run_later a.text.now a.frame a.mode ran.way (left_over a.text.now a.frame a.mode _ ran.tried c.write_left-step.ensures) c.in-Some.is
 
 pub loop-frame-preserved : goal.loop-frame-preserved
 loop-frame-preserved c =
     let a = c.args in
     let ran = c.lane_in-stopped.ensures in
     let u = lane_underway a.text.now a.frame a.mode a.fronts a.pieces.now a.errors.now c.requires.1 c.requires.0.text c.loop-frame.invariant ran in
-    underway_on a.text.now a.frame a.mode a.fronts a.pieces.now a.errors.now c.requires.1 u (left_over a.text.now a.frame a.mode _ ran.tried c.write_left-step.ensures) (not-false _ c.if-not-step.false)
+    underway_on a.text.now a.frame a.mode a.fronts a.pieces.now a.errors.now c.requires.1 u (left_over a.text.now a.frame a.mode _ ran.tried c.write_left-step.ensures) c.in-Some.is

@@ -1,20 +1,20 @@
 -- `flawless::short::put_told_spec` meets its contract: the parts of a spec, one after another.
-use mathlib.Core.Path.{◌≡◌, refl, ◌∙◌}
 use native.Mathlib.Omega.{arith}
-use Rattle.told.proofs.Telling.{put_count, put_width, spec_put}
+use Prim.Native.Nat.{◌+◌}
+use Rattle.quick.specs.Tellings.{precision_of}
+use Rattle.told.proofs.Telling.{spec_laid}
+use Rattle.flawless.proofs.Closing.{plain_unnamed}
 use Rattle.flawless.proofs.short.put_told_spec.Goals as goal
 
 pub overflow_add-k-4 : goal.overflow_add-k-4
 overflow_add-k-4 c = omega (arith, c.requires.1, c.well_formed)
 
 pub returns : goal.returns
+unfolding precision_of
 returns c =
     let a = c.args in
     let p = c.requires in
-    let same = c.put4.auto.out ∙ c.put_told_fill.auto.out in
-    (spec_put a.text.now a.frame a.at a.next a.spec a.out.now a.k p.1 {told = a.k ≡ a.k} (λ _. (omega (arith, p.2), omega (arith, p.3))) c.put_told_fill.ensures
+    spec_laid a.text.now a.frame a.at a.next a.spec a.out.now a.k p.1 c.put_told_fill.ensures
     (rw (c.align_word.ensures, c.sign_word.ensures, c.bit.ensures, c.bit-2.ensures) at c.put4.ensures)
-    (put_count a.text.now a.frame _ _ a.next _ (λ e. omega (arith, p.2, e)) c.put_told_count.ensures)
-    (put_width a.text.now a.frame _ a.next _ (λ e. omega (arith, p.3, e))
-    (put_count a.text.now a.frame _ _ a.next _ (λ e. omega (arith, p.3, e)) c.put_told_count-2.ensures))
-    c.put_told_type.ensures same (c.put_told_count.auto.out ∙ same) (c.put_told_count-2.auto.out ∙ c.put_told_count.auto.out ∙ same)).wrote refl
+    ((c.put_told_count.ensures a.spec.from).wrote (plain_unnamed p.2)) ((c.put_told_count-2.ensures (a.spec.width.end + 1)).wrote (plain_unnamed p.3))
+    c.put_told_type.ensures

@@ -1,13 +1,13 @@
 -- `passing::after::after_star` meets its contract: it is the definition.
-use borrow.Author.Tests.{eq-eqb, ne_eqb}
 use Rattle.utf8.specs.Choice.{pick}
 use Rattle.quick.specs.Tellings.{after_star}
+use Rattle.passing.proofs.Afters.{not_star}
 use Rattle.passing.proofs.after.after_star.Goals as goal
 
-pub returns-then-part-eq3 : goal.returns-then-part-eq3
+pub returns-in-Star : goal.returns-in-Star
 unfolding pick after_star
-returns-then-part-eq3 c = rw (eq-eqb _ _ c.if-part-eq3.true)
+returns-in-Star c = rw c.in-Star.is
 
-pub returns-else-part-eq3 : goal.returns-else-part-eq3
+pub returns-in_default : goal.returns-in_default
 unfolding pick after_star
-returns-else-part-eq3 c = rw (ne_eqb _ _ c.if-part-eq3.false)
+returns-in_default c = rw (not_star _ c.in_default.not-Star)

@@ -10,18 +10,17 @@ pub overflow_add-next : goal.overflow_add-next
 overflow_add-next c =
     omega (arith, c.requires, c.after_star-after.ensures, star_few c.args.state.next c.args.told.spec.precision)
 
-pub returns-then-place-eq0 : goal.returns-then-place-eq0
-returns-then-place-eq0 c =
+pub returns-in-Nothing : goal.returns-in-Nothing
+returns-in-Nothing c =
     let a = c.args in
-    rw (c.larger_of-arguments.ensures, c.with_counts-figure.ensures, c.after_star-after.ensures) (state_implied a.state a.told c.if-place-eq0.true)
+    rw (c.larger_of.ensures, c.with_counts-figure.ensures, c.after_star-after.ensures) (state_implied a.state a.told c.in-Nothing.is)
 
-pub returns-then-place-eq1 : goal.returns-then-place-eq1
-returns-then-place-eq1 c =
+pub returns-in-Number : goal.returns-in-Number
+returns-in-Number c =
     let a = c.args in
-    rw (c.larger_of-arguments-then-place-eq1.ensures, c.with_counts-figure.ensures, c.after_star-after.ensures)
-    (state_number a.state a.told c.if-place-eq0.false c.if-place-eq1.true)
+    rw (c.larger_of-in-Number.ensures, c.with_counts-figure.ensures, c.after_star-after.ensures) (state_number a.state a.told c.in-Number.is)
 
-pub returns : goal.returns
-returns c =
+pub returns-in-Word : goal.returns-in-Word
+returns-in-Word c =
     let a = c.args in
-    rw (c.with_counts-figure.ensures, c.after_star-after.ensures) (state_named a.state a.told c.if-place-eq0.false c.if-place-eq1.false)
+    rw (c.with_counts-figure.ensures, c.after_star-after.ensures) (state_named a.state a.told c.in-Word.is)

@@ -1,13 +1,16 @@
--- `passing::after::place_of` meets its contract: a place by its tag.
-use mathlib.Core.Path.{sym}
-use Rattle.passing.proofs.Afters.{place_next, place_number_lem, place_word}
+-- `passing::after::place_of` meets its contract: it is the definition.
+use Rattle.quick.specs.Tellings.{found_of}
+use Rattle.passing.specs.After.{place_of}
 use Rattle.passing.proofs.after.place_of.Goals as goal
 
-pub returns-then-part-eq0 : goal.returns-then-part-eq0
-returns-then-part-eq0 c = let a = c.args in sym (place_next a.at a.part a.next c.if-part-eq0.true)
+pub returns-in-Nothing : goal.returns-in-Nothing
+unfolding place_of found_of
+returns-in-Nothing c = rw c.in-Nothing.is
 
-pub returns-then-part-eq1 : goal.returns-then-part-eq1
-returns-then-part-eq1 c = let a = c.args in sym (place_number_lem a.at a.part a.next c.if-part-eq0.false c.if-part-eq1.true)
+pub returns-in-Number : goal.returns-in-Number
+unfolding place_of found_of
+returns-in-Number c = rw c.in-Number.is
 
-pub returns : goal.returns
-returns c = let a = c.args in sym (place_word a.at a.part a.next c.if-part-eq0.false c.if-part-eq1.false)
+pub returns-in-Word : goal.returns-in-Word
+unfolding place_of found_of
+returns-in-Word c = rw c.in-Word.is

@@ -10,4 +10,4 @@ returns-then-not-told c = rw (not-true c.args.told.colon c.if-not-told.true)
 
 pub returns : goal.returns
 unfolding with_counts pick
-returns c = rw (not-false c.args.told.colon c.if-not-told.false, ← c.with_width-wide.ensures) c.with_precision.ensures
+returns c = rw (not-false c.args.told.colon c.if-not-told.false, ← c.with_count-wide.ensures) c.with_count.ensures

@@ -7,7 +7,7 @@ use Rattle.placeholder.proofs.format.after_dot.Goals as goal
 pub returns-then-star : goal.returns-then-star
 unfolding after_dot pick
 returns-then-star c =
-    rw (← c.consume-star.ensures, c.if-star.true, ← c.span_between-span.ensures)
+    rw (← c.consume-star.ensures, c.if-star.true, ← c.span_between.ensures)
 
 pub returns : goal.returns
 unfolding after_dot pick
@@ -16,5 +16,5 @@ returns c =
       ← c.consume-star.ensures,
       c.if-star.false,
       ← c.count_at-read.ensures,
-      ← c.span_between-span-2.ensures,
+      ← c.span_between-2.ensures,
     )

@@ -2,23 +2,35 @@
 use Rattle.utf8.specs.Choice.{pick}
 use Rattle.placeholder.specs.Types.{is_hex_or_hash}
 use Rattle.placeholder.proofs.format.is_hex_or_hash.Goals as goal
-
-pub returns-then-peek_is : goal.returns-then-peek_is
-unfolding is_hex_or_hash pick
-returns-then-peek_is c = rw (← c.peek_is.ensures, c.if-peek_is.true)
+use Rattle.placeholder.proofs.format.is_hex_or_hash.Goals.{then-peek_is, else-peek_is}
 
 pub returns-then-peek_is-2 : goal.returns-then-peek_is-2
 unfolding is_hex_or_hash pick
 returns-then-peek_is-2 c =
-    rw (← c.peek_is.ensures, c.if-peek_is.false, ← c.peek_is-2.ensures, c.if-peek_is-2.true)
+    elim c.if-peek_is.branch [
+      | then-peek_is w ↦ rw (w.value-is, ← c.peek_is.ensures, w.if-peek_is.true)
+      | else-peek_is w ↦
+          rw (
+            ← c.peek_is.ensures,
+            w.if-peek_is.false,
+            ← w.peek_is-else-peek_is.ensures,
+            ← w.value-is,
+            c.if-peek_is-2.true,
+          )
+    ]
 
-pub returns : goal.returns
+pub returns-else-peek_is-2 : goal.returns-else-peek_is-2
 unfolding is_hex_or_hash pick
-returns c =
-    rw (
-      ← c.peek_is.ensures,
-      c.if-peek_is.false,
-      ← c.peek_is-2.ensures,
-      c.if-peek_is-2.false,
-      ← c.peek_is-3.ensures,
-    )
+returns-else-peek_is-2 c =
+    elim c.if-peek_is.branch [
+      | then-peek_is w ↦ let h = w.value-is in let g = c.if-peek_is-2.false in cc
+      | else-peek_is w ↦
+          rw (
+            ← c.peek_is.ensures,
+            w.if-peek_is.false,
+            ← w.peek_is-else-peek_is.ensures,
+            ← w.value-is,
+            c.if-peek_is-2.false,
+            ← c.peek_is-else-peek_is-2.ensures,
+          )
+    ]

@@ -2,18 +2,12 @@
 use Rattle.utf8.specs.Choice.{pick}
 use Rattle.placeholder.specs.Parts.{plain_width}
 use Rattle.placeholder.proofs.format.plain_width.Goals as goal
-
-pub returns-then-is_implied : goal.returns-then-is_implied
-unfolding plain_width pick
-returns-then-is_implied c =
-    rw (← c.count_at-read.ensures, ← c.is_implied.ensures, c.if-is_implied.true)
+use Rattle.placeholder.proofs.format.plain_width.Goals.{then-is_implied, else-is_implied}
 
 pub returns : goal.returns
 unfolding plain_width pick
 returns c =
-    rw (
-      ← c.count_at-read.ensures,
-      ← c.is_implied.ensures,
-      c.if-is_implied.false,
-      ← c.span_between-span.ensures,
-    )
+    elim c.if-is_implied.branch [
+      | then-is_implied w ↦ rw (← c.count_at-read.ensures, ← c.is_implied.ensures, w.if-is_implied.true, w.span-is)
+      | else-is_implied w ↦ rw (← c.count_at-read.ensures, ← c.is_implied.ensures, w.if-is_implied.false, w.span-is, ← w.span_between.ensures)
+    ]

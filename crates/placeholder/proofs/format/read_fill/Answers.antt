@@ -8,14 +8,14 @@ use Rattle.placeholder.specs.Parts.{fill_read}
 use Rattle.placeholder.proofs.format.read_fill.Goals as goal
 
 pub overflow_add-past : goal.overflow_add-past
-overflow_add-past c = let p = peeked _ _ (sym c.peek.ensures ∙ c.in-Char.is) in omega arith
+overflow_add-past c = let p = peeked _ _ (sym c.peek.ensures ∙ c.in-Some.is) in omega arith
 
 pub returns-then-is_align : goal.returns-then-is_align
 unfolding fill_read pick
 returns-then-is_align c =
     rw (
       ← c.peek.ensures,
-      c.in-Char.is,
+      c.in-Some.is,
       ← c.is_align.ensures,
       c.if-is_align.true,
       ← c.span_across-span.ensures,
@@ -24,8 +24,8 @@ returns-then-is_align c =
 pub returns-else-is_align : goal.returns-else-is_align
 unfolding fill_read pick
 returns-else-is_align c =
-    rw (← c.peek.ensures, c.in-Char.is, ← c.is_align.ensures, c.if-is_align.false)
+    rw (← c.peek.ensures, c.in-Some.is, ← c.is_align.ensures, c.if-is_align.false)
 
-pub returns-in-End : goal.returns-in-End
+pub returns-in_default : goal.returns-in_default
 unfolding fill_read pick
-returns-in-End c = rw (← c.peek.ensures, c.in-End.is)
+returns-in_default c = rw (← c.peek.ensures, c.in_default.is)

@@ -2,13 +2,12 @@
 use Rattle.utf8.specs.Choice.{pick}
 use Rattle.placeholder.specs.Types.{word_type}
 use Rattle.placeholder.proofs.format.word_type.Goals as goal
-
-pub returns-then-is_empty : goal.returns-then-is_empty
-unfolding word_type pick
-returns-then-is_empty c =
-    rw (← c.word-read.ensures, ← c.is_empty.ensures, c.if-is_empty.true)
+use Rattle.placeholder.proofs.format.word_type.Goals.{then-is_empty, else-is_empty}
 
 pub returns : goal.returns
 unfolding word_type pick
 returns c =
-    rw (← c.word-read.ensures, ← c.is_empty.ensures, c.if-is_empty.false, ← c.span_between-span.ensures)
+    elim c.if-is_empty.branch [
+      | then-is_empty w ↦ rw (← c.word-read.ensures, ← c.is_empty.ensures, w.if-is_empty.true, w.span-is)
+      | else-is_empty w ↦ rw (← c.word-read.ensures, ← c.is_empty.ensures, w.if-is_empty.false, w.span-is, ← w.span_between.ensures)
+    ]

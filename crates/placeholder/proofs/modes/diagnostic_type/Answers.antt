@@ -4,4 +4,4 @@ use Rattle.placeholder.proofs.modes.diagnostic_type.Goals as goal
 
 pub returns : goal.returns
 unfolding diagnostic_type
-returns c = rw (← c.string_end-end.ensures, ← c.span_between-span.ensures)
+returns c = rw (← c.string_end-end.ensures, ← c.span_between.ensures)

@@ -2,12 +2,12 @@
 use Rattle.placeholder.specs.Places.{place_read}
 use Rattle.placeholder.proofs.position.position.Goals as goal
 
-pub returns-in-Given : goal.returns-in-Given
+pub returns-in-Some : goal.returns-in-Some
 unfolding place_read
-returns-in-Given c =
-    rw (← c.integer-read.ensures, c.in-Given.is)
+returns-in-Some c =
+    rw (← c.integer-read.ensures, c.in-Some.is)
 
-pub returns-in-Nothing : goal.returns-in-Nothing
+pub returns-in-None : goal.returns-in-None
 unfolding place_read
-returns-in-Nothing c =
-    rw (← c.integer-read.ensures, c.in-Nothing.is, ← c.word_place.ensures)
+returns-in-None c =
+    rw (← c.integer-read.ensures, c.in-None.is, ← c.word_place.ensures)

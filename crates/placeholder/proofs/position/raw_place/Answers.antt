@@ -1,8 +1,8 @@
 -- `placeholder::position::raw_place` meets its contract: it is the definition with `#` and a word, with `#` alone, and with neither.
-use borrow.Author.Tests.{not-true, not-false}
 use Rattle.utf8.specs.Choice.{pick}
 use Rattle.placeholder.specs.Places.{raw_place}
 use Rattle.placeholder.proofs.position.raw_place.Goals as goal
+use Rattle.placeholder.proofs.position.raw_place.Goals.{then-hash+else-not-is_empty, else-hash}
 
 pub returns-then-not-is_empty : goal.returns-then-not-is_empty
 unfolding raw_place pick
@@ -12,21 +12,20 @@ returns-then-not-is_empty c =
       ← c.word-read.ensures,
       c.if-hash.true,
       ← c.is_empty.ensures,
-      not-true c.is_empty.result c.if-not-is_empty.true-raw,
+      c.if-not-is_empty.true,
     )
 
-pub returns-else-not-is_empty : goal.returns-else-not-is_empty
+pub returns : goal.returns
 unfolding raw_place pick
-returns-else-not-is_empty c =
-    rw (
-      ← c.consume-hash.ensures,
-      ← c.word-read.ensures,
-      c.if-hash.true,
-      ← c.is_empty.ensures,
-      not-false c.is_empty.result c.if-not-is_empty.false-raw,
-    )
-
-pub returns-else-hash : goal.returns-else-hash
-unfolding raw_place pick
-returns-else-hash c =
-    rw (← c.consume-hash.ensures, ← c.word-read.ensures, c.if-hash.false)
+returns c =
+    elim c.if-hash.branch [
+      | then-hash+else-not-is_empty w ↦
+          rw (
+            ← c.consume-hash.ensures,
+            ← w.word-read.ensures,
+            w.if-hash.true,
+            ← w.is_empty.ensures,
+            w.if-not-is_empty.false,
+          )
+      | else-hash w ↦ rw (← c.consume-hash.ensures, w.if-hash.false)
+    ]

@@ -1,7 +1,7 @@
 -- `quick::clear::clear_place` meets its contract: a number, a word that is no raw name and not `_`, or nothing.
 use mathlib.Core.Path.{sym, ◌∙◌, ap}
 use Rattle.scan.specs.Words.{is_digit}
-use Rattle.quick.proofs.Parts.{place_unknown, place_number_lem, place_nothing, place_word}
+use Rattle.quick.proofs.Parts.{place_number_lem, place_nothing, place_word}
 use Rattle.quick.proofs.clear.clear_place.Goals as goal
 
 pub number-requires : goal.number-requires
@@ -9,20 +9,13 @@ number-requires c =
     (c.requires, ap is_digit (sym c.byte-b.ensures) ∙ sym c.is_digit.ensures ∙ c.if-is_digit.true)
 
 pub returns-then-is_digit : goal.returns-then-is_digit
-returns-then-is_digit c = place_number_lem c.number.ensures
+returns-then-is_digit c = rw c.number_place.ensures (place_number_lem c.in_ok-number.ensures)
 
 pub returns-then-end-at : goal.returns-then-end-at
 returns-then-end-at c =
-    rw c.nothing.ensures
+    rw c.no_place.ensures
     (place_nothing (ap is_digit (sym c.byte-b.ensures) ∙ sym c.is_digit.ensures ∙ c.if-is_digit.false)
     (sym c.word_end-end.ensures ∙ c.if-end-at.true) c.requires.within)
-
-pub returns-then-is_raw : goal.returns-then-is_raw
-returns-then-is_raw c =
-    rw c.untold.ensures (place_unknown c.requires.within)
-
-pub returns-then-is_blank : goal.returns-then-is_blank
-returns-then-is_blank c = rw c.untold-then-is_blank.ensures (place_unknown c.requires.within)
 
 pub returns : goal.returns
 returns c =
@@ -30,7 +23,6 @@ returns c =
     let r = c.is_raw.ensures in
     let b = c.is_blank.ensures in
     let no = rw e at (sym b ∙ c.if-is_blank.false) in
-    rw c.plain.ensures
     (rw no at
     (place_word (ap is_digit (sym e) ∙ sym c.is_digit.ensures ∙ c.if-is_digit.false) c.word_end-end.ensures c.if-end-at.false
     (rw e at (sym r ∙ c.if-is_raw.false)) c.requires.within))

@@ -1,8 +1,8 @@
--- The list has the pieces so far over the lent one, and with those that the turn leaves they are all. The measure is how many are left.
+-- The list has the pieces so far over the lent one, and with those from the cursor on they are all. The measure is how many are left.
 use Rattle.std.proofs.Common.{◌≡◌, List, length}
 use Rattle.reading.specs.Written.{over}
 use Rattle.reading.specs.declared.Piece.{Piece}
-use Rattle.reader.proofs.Runs.{Run, left, piece_course}
+use Rattle.reader.proofs.Runs.{Run, piece_course}
 use Rattle.reader.proofs.lists.fill_pieces.Given as goal
 
 abbrev pub invariant-loop-turn : goal.invariant-loop-turn
@@ -10,8 +10,8 @@ invariant-loop-turn l = record {
   filled : List Piece;
   list : l.pieces ≡ over filled l.initial.pieces;
   count : l.n ≡ length filled;
-  run : Run (piece_course l.text l.frame l.mode) filled l.turn;
+  run : Run (piece_course l.text l.frame l.mode) filled l.cursor;
 }
 
 abbrev pub decreases-loop-turn : goal.decreases-loop-turn
-decreases-loop-turn l = length (left (piece_course l.text l.frame l.mode) l.turn)
+decreases-loop-turn l = length ((piece_course l.text l.frame l.mode).at l.cursor)

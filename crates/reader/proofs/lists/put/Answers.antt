@@ -10,5 +10,5 @@ returns-then-front c =
 
 pub returns-else-front : goal.returns-else-front
 returns-else-front c =
-    let e = c.push_back.ensures in
+    let e = c.push.ensures in
     (e.0, e.1 ∙ sym (put_back c.args.errors.now c.args.n c.args.record c.if-front.false))

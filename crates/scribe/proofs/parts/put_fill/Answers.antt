@@ -3,10 +3,10 @@ use Rattle.pen.specs.PenLaws.{laid_none}
 use Rattle.scribe.proofs.parts.put_fill.Goals as goal
 
 pub put_char-requires : goal.put_char-requires
-put_char-requires c = rw c.in-Present.is at c.requires
+put_char-requires c = rw c.in-Some.is at c.requires
 
-pub returns-in-Absent : goal.returns-in-Absent
-returns-in-Absent c = rw c.in-Absent.is (laid_none _ _)
+pub returns-in-None : goal.returns-in-None
+returns-in-None c = rw c.in-None.is (laid_none _ _)
 
-pub returns-in-Present : goal.returns-in-Present
-returns-in-Present c = rw c.in-Present.is c.put_char.ensures
+pub returns-in-Some : goal.returns-in-Some
+returns-in-Some c = rw c.in-Some.is c.put_char.ensures

@@ -1,18 +1,16 @@
--- `told::parts::put_told_place` meets its contract: four numbers, by the place's tag.
-use Rattle.passing.proofs.Afters.{place_next, place_number_lem, place_word}
+-- `told::parts::put_told_place` meets its contract: four numbers, by the place's kind.
+use Rattle.quick.specs.Tellings.{found_of}
+use Rattle.passing.specs.After.{place_of}
 use Rattle.told.proofs.parts.put_told_place.Goals as goal
 
-pub returns-then-place-eq0 : goal.returns-then-place-eq0
-returns-then-place-eq0 c =
-    let a = c.args in
-    rw (place_next a.at a.place a.next c.if-place-eq0.true, ← c.low-start.ensures, ← c.low-end.ensures, ← c.low.ensures) c.put4.ensures
+pub returns-in-Nothing : goal.returns-in-Nothing
+unfolding place_of found_of
+returns-in-Nothing c = rw (c.in-Nothing.is, ← c.low-start.ensures, ← c.low-end.ensures, ← c.low.ensures) c.put4.ensures
 
-pub returns-then-place-eq1 : goal.returns-then-place-eq1
-returns-then-place-eq1 c =
-    let a = c.args in
-    rw (place_number_lem a.at a.place a.next c.if-place-eq0.false c.if-place-eq1.true, ← c.low-start.ensures, ← c.low-end.ensures) c.put4-then-place-eq1.ensures
+pub returns-in-Number : goal.returns-in-Number
+unfolding place_of found_of
+returns-in-Number c = rw (c.in-Number.is, ← c.low-start.ensures, ← c.low-end.ensures) c.put4-in-Number.ensures
 
-pub returns : goal.returns
-returns c =
-    let a = c.args in
-    rw (place_word a.at a.place a.next c.if-place-eq0.false c.if-place-eq1.false, ← c.low-start.ensures, ← c.low-end.ensures, ← c.low-2.ensures, ← c.low-3.ensures) c.put4-2.ensures
+pub returns-in-Word : goal.returns-in-Word
+unfolding place_of found_of
+returns-in-Word c = rw (c.in-Word.is, ← c.low-start.ensures, ← c.low-end.ensures, ← c.low-in-Word.ensures, ← c.low-in-Word-2.ensures) c.put4-in-Word.ensures
