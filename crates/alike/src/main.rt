@@ -50,6 +50,7 @@ fn first_apart(one: &[u8], f: Frame, two: &[u8], g: Frame, mode: Mode) -> Apart
     let mut c = turns::first_cursor(one);
     let mut d = turns::first_cursor(two);
     let mut i = 0;
+    // `loop`: two runs go on side by side. A run has no more pieces than its text has bytes.
     loop {
         let a = turns::next_piece(one, f, mode, c);
         let b = turns::next_piece(two, g, mode, d);

@@ -164,6 +164,7 @@ fn lane(
     let mut arguments = from.arguments;
     let mut n = written;
     let mut given = 0;
+    // `loop`: each step says whether there is another.
     loop {
         let state = State {
             at: TextPlace(at),

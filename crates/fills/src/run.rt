@@ -54,6 +54,7 @@ fn run(
         fronts: 0,
     };
     let mut given = 0;
+    // `loop`: each stop of the lane says whether there is more.
     loop {
         let stopped = lane_in(text, frame, mode, state, extent.pieces, &mut *pieces);
         let reached = stopped.state;

@@ -81,6 +81,9 @@ fn clear_spec_from(text: &[u8], to: usize, colon: bool) -> Option<SpecTold>
     Some(no_spec(to))
 }
 
+// The byte that closes a placeholder.
+const CLOSING: u8 = b'}';
+
 // The placeholder whose place starts at `at`, after its opening brace.
 pub fn tell_closed(text: &[u8], at: usize) -> Option<PlaceholderTold>
     requires { Room text.now at }
@@ -91,7 +94,7 @@ pub fn tell_closed(text: &[u8], at: usize) -> Option<PlaceholderTold>
     let colon = utf8::byte(text, to) == b':';
     let spec = clear_spec_from(text, to, colon)?;
     let close = space_end(text, spec.typed.end);
-    if utf8::byte(text, close) != b'}' {
+    if utf8::byte(text, close) != CLOSING {
         return None;
     }
     Some(PlaceholderTold {

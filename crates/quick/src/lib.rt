@@ -1,4 +1,4 @@
-// The parts of a placeholder of Format mode, told in plain numbers, with the faults that need no more than a look: a word `_`, and a closing brace
+// The parts of a placeholder of Format mode, told by kinds and plain numbers, with the faults that need no more than a look: a word `_`, and a closing brace
 // that is missing. What they tell is what `closing` reads, and of what they do not tell (`None`) nothing is said: it is left to it. `whole` puts them together; `flawless` writes
 // each part as soon as it is told.
 #![tactic(auto)]
@@ -25,7 +25,7 @@ pub struct NumberPart {
     pub end: usize,
 }
 
-// What stands where the place of an argument may.
+// What stands where the place of an argument may. `Nothing` is a case like the others: it takes the next argument.
 #[derive(Clone, Copy)]
 pub enum PlaceKind {
     Nothing,
@@ -41,7 +41,7 @@ pub struct PlacePart {
     pub blank: bool,
 }
 
-// What stands where a width or a precision may: a number, an argument's number or a name with its `$`, a star, or a dot with no count behind it.
+// What stands where a width or a precision may: a number, an argument's number or a name with its `$`, a star, or a dot with no count behind it. `Nothing` is a case like the others: it wants no argument.
 #[derive(Clone, Copy)]
 pub enum CountKind {
     Nothing,
@@ -102,7 +102,7 @@ pub struct SpecTold {
     pub given: usize,
 }
 
-// What is said of a sign where a closing brace was expected.
+// What is said of a sign where a closing brace was expected. `Silent` is a case like the others: reading goes on after each.
 #[derive(Clone, Copy)]
 pub enum SignHint {
     Silent,

@@ -19,4 +19,4 @@ pub returns : goal.returns
 returns c =
     let e = place_ends c.in_ok-placed.ensures c.space_end-to.ensures in
     tells e
-    (sound_either e c.byte-colon.ensures c.in_ok-spec.ensures c.space_end-close.ensures (closed_ending (sym c.byte.ensures ∙ c.if-byte-ne125.false)))
+    (sound_either e c.byte-colon.ensures c.in_ok-spec.ensures c.space_end-close.ensures (closed_ending (sym c.byte.ensures ∙ c.if-byte-ne-CLOSING.false)))
