@@ -119,6 +119,13 @@ pub closed : (s : List ℕ) (h : ℕ) → same s (closing h) ≡ true → (1 ≤
 unfolding closing
 closed s h t = rw (same_equal s (closing h) t) (omega arith, refl)
 
+-- where another opening stands, it is none, whatever is behind
+pub literal_unopened : (s head rest b : List ℕ) (h : ℕ) → s ≡ head ++ rest → length head ≡ h + 2 → same head (opening h) ≡ false →
+    same s (raw_literal h b) ≡ false
+unfolding raw_literal
+literal_unopened s head rest b h e l n =
+    rw (e, same_appended head (opening h) rest (b ++ closing h) (l ∙ sym (length_opening h)), n) refl
+
 -- where the body stands after its opening, the two around it are left
 pub literal_parts : (s head rest b tail : List ℕ) (h : ℕ) → s ≡ head ++ rest → length head ≡ h + 2 → rest ≡ b ++ tail →
     same s (raw_literal h b) ≡ both (same head (opening h)) (same tail (closing h))

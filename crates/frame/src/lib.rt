@@ -132,10 +132,14 @@ fn is_raw_literal(snippet: &[u8], hashes: u8, inside: &[u8]) -> bool
     let Some((head, rest)) = snippet.split_at_checked(hashes as usize + 2) else {
         return false;
     };
+    // Asked before the body is looked at, which may be long.
+    if !opens(head, hashes) {
+        return false;
+    }
     let Some(tail) = rest.strip_prefix(inside) else {
         return false;
     };
-    opens(head, hashes) && closes(tail, hashes)
+    closes(tail, hashes)
 }
 
 // The snippet is a source literal.
