@@ -102,16 +102,16 @@ fn walk_faults(text: &[u8], frame: Frame, step: Step, totals: &mut [usize]) -> b
     requires { Small text.now frame × Room 13 totals.old }
     ensures { (totals.new ≡ added 0 totals.old (gather fault_lines (faults_of step))) × (result ≡ is_none (faults_of step)) }
 {
-    let mut sound = true;
-    for k in 0..13 {
+    let first = faults::first_wrong(step, 0);
+    // `while`: the slot is the next that is wrong, which `first_wrong` tells for every walk over faults.
+    let mut k = first;
+    while k < 13 {
         let fault = faults::fault_at(step, k);
-        if !faults::is_clean(fault) {
-            let record = faults::record_of(text, frame, fault, 0);
-            count_in(record.kind as usize + 7, &mut *totals);
-            sound = false;
-        }
+        let record = faults::record_of(text, frame, fault, 0);
+        count_in(record.kind as usize + 7, &mut *totals);
+        k = faults::first_wrong(step, k + 1);
     }
-    sound
+    first == 13
 }
 
 // Counts a step: its piece, and what it found wrong; says whether there is nothing.

@@ -94,12 +94,12 @@ fn walk_faults(text: &[u8], frame: Frame, step: Step, errors: &mut [u32], extent
     ensures { Notes text.now frame extent errors.old (step_slots step) result errors.new }
 {
     let mut after = extent;
-    for k in 0..13 {
+    // `while`: the slot is the next that is wrong, which `first_wrong` tells for every walk over faults.
+    let mut k = faults::first_wrong(step, 0);
+    while k < 13 {
         let fault = faults::fault_at(step, k);
-        if faults::is_clean(fault) {
-            continue;
-        }
         after = put_fault(text, frame, fault, &mut *errors, after);
+        k = faults::first_wrong(step, k + 1);
     }
     after
 }
