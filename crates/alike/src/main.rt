@@ -3,9 +3,12 @@
 // why, and standard output stays empty.
 #![tactic(auto)]
 
-ghost use Rattle.std.specs.Prelude.{◌≡◌, ◌≤◌, length, take, IfOk, IfSome};
+ghost use Rattle.std.specs.Prelude.{◌≡◌, ◌≤◌, [], true, false, length, take, codes, IfOk, IfSome, OnOk};
 ghost use Rattle.std.specs.Io.{ReadsAtMost};
+ghost use Rattle.std.specs.Io.KnownBytes.{Appends};
 ghost use Rattle.frame.specs.Bounds.{Small};
+ghost use Rattle.frame.specs.Frames.{same};
+ghost use Rattle.alike.specs.Likeness.{Begins, Parted};
 
 use frame::{Frame, Mode, TextRange};
 use reading::{Piece, Request};
@@ -39,8 +42,10 @@ fn is_same(one: &[u8], a: Piece, two: &[u8], b: Piece) -> bool {
         _ => false,
     };
     one_sort
-        && steps::text::literal_text(one, range_of(a))
-            == steps::text::literal_text(two, range_of(b))
+        && desk::equal(
+            steps::text::literal_text(one, range_of(a)),
+            steps::text::literal_text(two, range_of(b)),
+        )
 }
 
 // The first pieces that are not the same, or one that the other text has none for.
@@ -72,7 +77,9 @@ fn first_apart(one: &[u8], f: Frame, two: &[u8], g: Frame, mode: Mode) -> Apart
 }
 
 // A piece as it is written, or that there is none.
-fn put_piece<W: Write>(out: &mut W, text: &[u8], piece: Option<Piece>) -> io::Result<()> {
+fn put_piece<W: Write>(out: &mut W, text: &[u8], piece: Option<Piece>) -> io::Result<()>
+    ensures { OnOk result (Begins [] (W.contents out.old) (W.contents out.new)) }
+{
     let Some(piece) = piece else {
         return write!(out, "no more");
     };
@@ -81,7 +88,9 @@ fn put_piece<W: Write>(out: &mut W, text: &[u8], piece: Option<Piece>) -> io::Re
     write!(out, "`")
 }
 
-fn put_apart<W: Write>(out: &mut W, one: &[u8], two: &[u8], at: Apart) -> io::Result<()> {
+fn put_apart<W: Write>(out: &mut W, one: &[u8], two: &[u8], at: Apart) -> io::Result<()>
+    ensures { OnOk result (Begins (codes "differ at piece ") (W.contents out.old) (W.contents out.new)) }
+{
     let piece = at.piece;
     write!(out, "differ at piece {piece}: ")?;
     put_piece(out, one, at.one)?;
@@ -91,7 +100,9 @@ fn put_apart<W: Write>(out: &mut W, one: &[u8], two: &[u8], at: Apart) -> io::Re
 }
 
 // Where two plain forms part.
-fn put_parting<W: Write>(out: &mut W, one: &[u8], two: &[u8], mode: u8) -> io::Result<()> {
+fn put_parting<W: Write>(out: &mut W, one: &[u8], two: &[u8], mode: u8) -> io::Result<()>
+    ensures { OnOk result (Parted (W.contents out.old) (W.contents out.new)) }
+{
     let request = Request {
         mode,
         style: None,
@@ -113,8 +124,11 @@ fn put_parting<W: Write>(out: &mut W, one: &[u8], two: &[u8], mode: u8) -> io::R
 }
 
 // Whether two plain forms are the same, or where they part.
-fn put_likeness<W: Write>(out: &mut W, one: &[u8], two: &[u8], mode: u8) -> io::Result<()> {
-    if one == two {
+fn put_likeness<W: Write>(out: &mut W, one: &[u8], two: &[u8], mode: u8) -> io::Result<()>
+    ensures told { same one.now two.now ≡ true → OnOk result (Appends (W.contents out.old) (W.contents out.new) (codes "the same\n")) }
+    ensures apart { same one.now two.now ≡ false → OnOk result (Parted (W.contents out.old) (W.contents out.new)) }
+{
+    if desk::equal(one, two) {
         return writeln!(out, "the same");
     }
     put_parting(out, one, two, mode)

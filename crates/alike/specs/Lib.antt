@@ -1,0 +1,2 @@
+-- What is written of two plain forms.
+pub mod Likeness
