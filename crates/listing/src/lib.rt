@@ -2,7 +2,9 @@
 // over a writer with a buffer.
 #![tactic(auto)]
 
-ghost use Rattle.std.specs.Prelude.{[], ◌∷◌, ◌++◌, codes, decimal};
+ghost use Rattle.std.specs.Prelude.{[], ◌∷◌, ◌++◌, ◌≡◌, Some, codes, decimal};
+ghost use Rattle.listing.specs.Parts.{span_ends, range_ends, ends_listed, range_listed, numeral_listed, place_listed, count_listed, fill_listed, spec_listed, output_or_dash};
+ghost use Rattle.listing.specs.Lines.{argument_line, piece_line, error_line};
 ghost use Rattle.listing.specs.Shapes.{Wrote, shaped};
 
 use frame::{Span, TextRange};
@@ -22,6 +24,8 @@ struct Listed<T>(T);
 struct OrDash<T>(Option<T>);
 
 impl<T: Display> Display for OrDash<T> {
+    ghost output = { λ part. output_or_dash T.output part.0 };
+
     fn fmt<W: fmt::Write>(&self, f: &mut Formatter<W>) -> fmt::Result {
         match &self.0 {
             None => write!(f, "-"),
@@ -38,6 +42,8 @@ struct Ends {
 }
 
 impl From<Span> for Ends {
+    ghost from_gives = { λ span ends. ends ≡ span_ends span };
+
     fn from(span: Span) -> Ends {
         Ends {
             start: span.start.0,
@@ -47,6 +53,8 @@ impl From<Span> for Ends {
 }
 
 impl From<TextRange> for Ends {
+    ghost from_gives = { λ range ends. ends ≡ range_ends range };
+
     fn from(range: TextRange) -> Ends {
         Ends {
             start: range.start.0,
@@ -56,6 +64,8 @@ impl From<TextRange> for Ends {
 }
 
 impl Display for Ends {
+    ghost output = { λ ends. Some (ends_listed ends) };
+
     fn fmt<W: fmt::Write>(&self, f: &mut Formatter<W>) -> fmt::Result {
         write!(f, "{}..{}", self.start, self.end)
     }
@@ -63,12 +73,16 @@ impl Display for Ends {
 
 // A part of the text: the places of its first byte and of the byte past its last.
 impl Display for Listed<TextRange> {
+    ghost output = { λ listed. Some (range_listed listed.0) };
+
     fn fmt<W: fmt::Write>(&self, f: &mut Formatter<W>) -> fmt::Result {
         write!(f, "{} {}", self.0.start.0, self.0.end.0)
     }
 }
 
 impl Display for Listed<Numeral> {
+    ghost output = { λ listed. Some (numeral_listed listed.0) };
+
     fn fmt<W: fmt::Write>(&self, f: &mut Formatter<W>) -> fmt::Result {
         match self.0 {
             Numeral::Within(number) => write!(f, "{number}"),
@@ -78,6 +92,8 @@ impl Display for Listed<Numeral> {
 }
 
 impl Display for Listed<Place> {
+    ghost output = { λ listed. Some (place_listed listed.0) };
+
     fn fmt<W: fmt::Write>(&self, f: &mut Formatter<W>) -> fmt::Result {
         match self.0 {
             Place::Next(argument) => write!(f, "next {argument}"),
@@ -89,6 +105,8 @@ impl Display for Listed<Place> {
 }
 
 impl Display for Listed<Count> {
+    ghost output = { λ listed. Some (count_listed listed.0) };
+
     fn fmt<W: fmt::Write>(&self, f: &mut Formatter<W>) -> fmt::Result {
         match self.0 {
             Count::Implied => write!(f, "implied"),
@@ -101,6 +119,8 @@ impl Display for Listed<Count> {
 }
 
 impl Display for Listed<Fill> {
+    ghost output = { λ listed. Some (fill_listed listed.0) };
+
     fn fmt<W: fmt::Write>(&self, f: &mut Formatter<W>) -> fmt::Result {
         write!(f, "{} {}", self.0.code, Ends::from(self.0.span))
     }
@@ -108,6 +128,8 @@ impl Display for Listed<Fill> {
 
 // A spec: its marks as numbers, 0 where one is absent, then its counts and its type.
 impl Display for Listed<Spec> {
+    ghost output = { λ listed. Some (spec_listed listed.0) };
+
     fn fmt<W: fmt::Write>(&self, f: &mut Formatter<W>) -> fmt::Result {
         let spec = self.0;
         let (align, sign, hex) = (spec.align as u8, spec.sign as u8, spec.hex as u8);
@@ -146,7 +168,9 @@ fn literal<W: Write>(out: &mut W, r: TextRange) -> io::Result<()>
 }
 
 // An argument's line: its bytes and its place, and in full where the place stands, and its spec.
-fn argument<W: Write>(out: &mut W, full: bool, a: Argument) -> io::Result<()> {
+fn argument<W: Write>(out: &mut W, full: bool, a: Argument) -> io::Result<()>
+    ensures { Wrote result (W.contents out.old) (W.contents out.new) (argument_line full a) }
+{
     write!(out, "arg {} {}", Listed(a.range), Listed(a.place))?;
     if full {
         write!(out, " span {} {}", Ends::from(a.placespan), Listed(a.spec))?;
@@ -155,7 +179,9 @@ fn argument<W: Write>(out: &mut W, full: bool, a: Argument) -> io::Result<()> {
 }
 
 // A piece's line.
-pub fn piece<W: Write>(out: &mut W, full: bool, p: Piece) -> io::Result<()> {
+pub fn piece<W: Write>(out: &mut W, full: bool, p: Piece) -> io::Result<()>
+    ensures { Wrote result (W.contents out.old) (W.contents out.new) (piece_line full p) }
+{
     match p {
         Piece::Literal(r) => literal(out, r),
         Piece::Placeholder(a) => argument(out, full, a),
@@ -163,7 +189,9 @@ pub fn piece<W: Write>(out: &mut W, full: bool, p: Piece) -> io::Result<()> {
 }
 
 // An error record's line.
-pub fn error<W: Write>(out: &mut W, e: ErrorRecord) -> io::Result<()> {
+pub fn error<W: Write>(out: &mut W, e: ErrorRecord) -> io::Result<()>
+    ensures { Wrote result (W.contents out.old) (W.contents out.new) (error_line e) }
+{
     writeln!(
         out,
         "err {} {} second {} quoted {} suggestion {} piece {}",

@@ -1,0 +1,3 @@
+-- Laws that the proofs of `listing` share.
+pub mod Dashes
+pub mod Joins
