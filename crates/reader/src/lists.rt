@@ -18,6 +18,7 @@ pub fn push<T: Copy>(list: &mut [T], n: usize, item: T) -> usize
 }
 
 // Puts a record in front of the first `n`, which move back by one, and says how many there are.
+#[tactic(auto, using(crate::proofs::Shift::shifted))]
 pub fn insert_front(errors: &mut [ErrorRecord], n: usize, record: ErrorRecord) -> usize
     requires { n < length errors.old }
     ensures { (result ≡ n + 1) × (errors.new ≡ in_front errors.old n «record») }

@@ -1,19 +1,15 @@
 -- The numbers of what is told, part by part: each part's four numbers are the layout's. Rests on Told, quick's Tellings and words' Layout.
-use Rattle.std.specs.Prelude.{Some, None}
 use Prim.Native.Nat.{ℕ, ◌+◌, ◌-◌, ◌≤◌}
 use mathlib.Core.Path.{◌≡◌, refl, sym, ap, ◌∙◌}
 use mathlib.Core.Bool.{Bool, true, false, true≢false}
 use mathlib.Core.List.{List, ◌++◌, append_assoc}
 use native.Mathlib.Omega.{arith}
-use borrow.Author.Tests.{eqb-true, eqb-false, eq-eqb, ne_eqb}
-use lib.Dec.{eqb}
 use lib.ListN.{length, length-append}
 use Rattle.utf8.specs.Choice.{pick}
 use Rattle.frame.specs.Places.{place, range_of}
 use Rattle.frame.specs.Spans.{span_between}
 use Rattle.frame.specs.declared.Frame.{Frame}
 use Rattle.frame.specs.declared.Span.{Span}
-use Rattle.scan.specs.declared.Count.{Count}
 use Rattle.placeholder.specs.Arguments.{resolved}
 use Rattle.placeholder.specs.Specs.{no_spec}
 use Rattle.placeholder.specs.declared.Spec.{Spec}
@@ -32,7 +28,7 @@ use Rattle.writing.proofs.Overlays.{laid_before}
 use Rattle.words.proofs.Laying.{laying_first, laying_on, laying_last}
 use Rattle.passing.specs.After.{place_of}
 use Rattle.told.specs.Told.{Spoilt, Put, place_number, kind_number, kind_value, told_head, name_words, type_words}
-use Rattle.told.proofs.Spoiling.{spoilt_laid, put_laid, spoilt_then}
+use Rattle.told.proofs.Spoiling.{spoilt_laid, spoilt_then}
 
 -- TWO PARTS laid one after the other
 pub two_laid : (l : List ℕ) (k : ℕ) (a b : List ℕ) (j : ℕ) → j ≡ k + length a → k + length a + length b ≤ length l → {l₁ l₂ : List ℕ} →
@@ -134,6 +130,30 @@ module _ (t : List ℕ) (f : Frame) (start from n : ℕ) (p : CountPart) where
   pub name_counted : p.kind ≡ CountKind.Name → name_words t f start from p.end ≡ counted
   unfolding name_words width_of count_span pick
   name_counted e = rw e
+
+-- A COUNT THAT MAY BE A NAME, as it is written: a name
+module _ (t : List ℕ) (f : Frame) (start from n k : ℕ) (p : CountPart) (l l' : List ℕ) where
+  pub named_wrote : l' ≡ laid l k (name_words t f start from p.end) → p.kind ≡ CountKind.Name →
+      l' ≡ laid l k (count_words (width_of t f n from p) (count_span t f start p))
+  named_wrote w e = w ∙ ap (laid l k) (name_counted t f start from n p e)
+
+  -- or none
+  pub count_wrote : ((a : ℕ) → Put (p.kind ≡ CountKind.Name → ⊥) k 8 (count_words (width_of t f n a p) (count_span t f start p)) l l') →
+      (p.kind ≡ CountKind.Name → ⊥) → l' ≡ laid l k (count_words (width_of t f n from p) (count_span t f start p))
+  count_wrote w c = (w from).wrote c
+
+-- a dot is no name
+is_dot : CountKind → Bool
+is_dot CountKind.Nothing = false
+is_dot (CountKind.Number v) = false
+is_dot (CountKind.Argument v) = false
+is_dot CountKind.Star = false
+is_dot CountKind.Name = false
+is_dot CountKind.Dot = true
+
+pub dot_unnamed : {k : CountKind} → k ≡ CountKind.Dot → k ≡ CountKind.Name → ⊥
+unfolding is_dot
+dot_unnamed d n = true≢false (ap is_dot (sym d ∙ n))
 
 -- a name's bytes and their span, then the count's span
 pub name_laid : (t : List ℕ) (f : Frame) (start from end : ℕ) (l : List ℕ) (k : ℕ) → k + 8 ≤ length l → {l₁ l₂ : List ℕ} →

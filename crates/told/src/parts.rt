@@ -179,6 +179,7 @@ fn put_told_name(
 }
 
 // A width or a precision, which may be a name from `from` on; its span starts at `start`: with a precision's dot.
+#[tactic(auto, using(crate::proofs::Telling::named_wrote, crate::proofs::Telling::count_wrote, crate::proofs::Telling::dot_unnamed))]
 pub fn put_told_named(
     out: &mut [u32],
     k: usize,
