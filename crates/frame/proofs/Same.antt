@@ -6,7 +6,7 @@ use mathlib.Core.List.{List, [], ◌∷◌, ◌++◌}
 use native.Mathlib.Omega.{arith}
 use native.Mathlib.Nat.{not-suc-le-zero}
 use lib.Dec.{eqb}
-use lib.ListN.{length, get_or, drop}
+use lib.ListN.{length, get_or, take, drop}
 use Rattle.utf8.specs.Choice.{both}
 use Rattle.utf8.specs.ChoiceLaws.{not_so, both_right}
 use Rattle.frame.specs.Frames.{same}
@@ -30,6 +30,13 @@ same_cons (y ∷ s) x q p = refl
 both_assoc : (p q r : Bool) → both p (both q r) ≡ both (both p q) r
 both_assoc true q r = refl
 both_assoc false q r = refl
+
+-- a first part, and the rest
+pub same_append : (s p q : List ℕ) → same s (p ++ q) ≡ both (same (take (length p) s) p) (same (drop (length p) s) q)
+unfolding same
+same_append s [] q = refl
+same_append [] (x ∷ p) q = refl
+same_append (y ∷ s) (x ∷ p) q = rw (same_append s p q) (both_assoc (eqb y x) _ _)
 
 -- two parts before two others, where the first are as long
 pub same_appended : (p q x y : List ℕ) → length p ≡ length q → same (p ++ x) (q ++ y) ≡ both (same p q) (same x y)

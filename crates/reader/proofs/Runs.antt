@@ -58,6 +58,9 @@ module _ {X Turn Key : Type 0} {from : Turn → Key} {first : Key} (c : Course X
         is : c.all ≡ es
         is = x.whole ∙ ap (c.post es) (c.last k none) ∙ c.post_none es
 
+    pub few : length es ≤ length c.all
+    few = omega (arith, ap length x.whole, c.post_length es (c.at k))
+
     module _ (r : Turn) (next : c.Next k (Some r)) where
       pub room : length es < length c.all
       room = omega (arith, ap length x.whole, c.post_length es (c.at k), ap length (c.says k r next))

@@ -1,5 +1,5 @@
 -- The run over a text's pieces: what is left of the plain form is that of the pieces from the cursor on. Rests on turns and pen's laws.
-use Rattle.std.specs.Prelude.{ℕ, ◌+◌, ◌<◌, ◌≡◌, ◌≤◌, length, Some, None}
+use Rattle.std.specs.Prelude.{ℕ, ◌+◌, ◌<◌, ◌≡◌, length, Some, None}
 use Rattle.std.proofs.Math.Path.{refl}
 use Rattle.std.proofs.Common.{ap, sym, subst, ◌∙◌, arith, length-append}
 use mathlib.Core.List.{List, [], ◌∷◌, ◌++◌}
@@ -8,7 +8,7 @@ use Rattle.frame.specs.declared.Mode.{Mode}
 use Rattle.reading.specs.Lists.{gather, pieces}
 use Rattle.reading.specs.declared.Piece.{Piece}
 use Rattle.turns.specs.Turns.{Fresh, first_cursor, pieces_at, PieceNext}
-use Rattle.turns.specs.TurnLaws.{first_pieces, fresh_first}
+use Rattle.turns.specs.TurnLaws.{first_pieces}
 use Rattle.turns.specs.declared.Cursor.{Cursor}
 use Rattle.turns.specs.declared.PieceTurn.{PieceTurn}
 use Rattle.pen.specs.Pens.{Fits, Laid}
@@ -37,13 +37,13 @@ module _ (t : List ℕ) (f : Frame) (m : Mode) where
     pub inked : AllInked (pieces_at t f m c)
     pub fresh : Fresh c
 
-  pub going_first : (old : List ℕ) → length t ≤ 65535 → AllInked (pieces t f m) → Going old old (first_cursor t) 0
+  pub going_first : (old : List ℕ) → Fresh (first_cursor t) → AllInked (pieces t f m) → Going old old (first_cursor t) 0
   going_first old h a =
       let e : pieces_at t f m (first_cursor t) ≡ pieces t f m = first_pieces t f m in
       record {
         left = subst (λ xs. Left old 0 (form_of (pieces t f m)) old 0 (form_of xs)) (sym e) (left_first old 0 (form_of (pieces t f m)));
         inked = subst AllInked (sym e) a;
-        fresh = fresh_first t h;
+        fresh = h;
       }
 
   module _ {old out : List ℕ} {c : Cursor} {k : ℕ} (g : Going old out c k) where
